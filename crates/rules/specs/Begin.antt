@@ -1,0 +1,41 @@
+-- Beginnings: 9, 10, 8, 7, 3, 4, 5. A refused beginning begins nothing.
+use mathlib.Core.Bool.{Bool, true, false, not, _&&_}
+use mathlib.Core.List.{List, [], _∷_, _++_}
+use Prim.Native.Nat.{ℕ, zero, suc, _+_, _*_, _%_}
+use lib.Dec.{eqb, leb}
+use Rattle.laws.specs.Tests.{pick}
+use Rattle.rules.specs.Numbers.{childFrames, Shape}
+use Rattle.rules.specs.Blocks.{size, blockAt}
+use Rattle.rules.specs.Zone.{Zone, shapeOf, nothing}
+use Rattle.rules.specs.Plan.{Plan, says, Refusal, on, guarded}
+use Rattle.rules.specs.Checks.{notOpen}
+use Rattle.rules.specs.Types.{Frame, Order, Taking, Giving, Record, Answer}
+
+-- the number of an order, and the order of a number that is one's
+abbrev pub orderNumber : Order → ℕ
+orderNumber Order.Zero = 0
+orderNumber Order.Nine = 9
+
+unfoldable pub isOrder : ℕ → Bool
+isOrder n = pick (eqb n (orderNumber Order.Zero)) true (eqb n (orderNumber Order.Nine))
+
+unfoldable pub orderOf : ℕ → Order
+orderOf n = pick (eqb n (orderNumber Order.Zero)) Order.Zero Order.Nine
+
+abbrev pub badCpu : Zone → ℕ → Refusal
+badCpu z cpu = on (leb (shapeOf z .cpus) cpu) Answer.BadCpu
+
+abbrev pub badOrder : ℕ → Refusal
+badOrder o = on (not (isOrder o)) Answer.BadOrder
+
+abbrev pub badFrame : Zone → Frame → Refusal
+badFrame z f = on (leb (shapeOf z .huge * childFrames) (f .0)) Answer.BadFrame
+
+abbrev pub misaligned : ℕ → Frame → Refusal
+misaligned o f = on (not (eqb (f .0 % size (orderOf o)) 0)) Answer.Misaligned
+
+unfoldable pub beginGet : Zone → ℕ → ℕ → Plan
+beginGet z cpu o = guarded (notOpen z ++ (badCpu z cpu ∷ badOrder o ∷ [])) (says nothing (Answer.UnderWay (Record.Get cpu (Taking.Own (orderOf o)))))
+
+unfoldable pub beginPut : Zone → ℕ → Frame → ℕ → Plan
+beginPut z cpu f o = guarded (notOpen z ++ (badCpu z cpu ∷ badOrder o ∷ badFrame z f ∷ misaligned o f ∷ [])) (says nothing (Answer.UnderWay (Record.Put cpu (Giving.Clear (blockAt (orderOf o) f)))))

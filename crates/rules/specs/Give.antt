@@ -1,0 +1,35 @@
+-- Giving back: what each stage of a put does with the one entry that it reads.
+use mathlib.Core.Bool.{Bool, true, false}
+use Prim.Native.Nat.{ℕ, zero, suc, _+_, _-_, _*_}
+use lib.Dec.{eqb}
+use Rattle.laws.specs.Tests.{pick}
+use Rattle.rules.specs.Numbers.{childWords, Shape}
+use Rattle.rules.specs.Blocks.{size, sizeOf, firstOf, treeOfBlock, childOfBlock, wordOf, bitOf}
+use Rattle.rules.specs.Lower.{giveCount, clearHuge, clearRun}
+use Rattle.rules.specs.Plan.{plain, clears, Made, look, store, tally, Step, cpuEntry, treeEntry, childEntry, wordEntry, onGave}
+use Rattle.rules.specs.Take.{ifOwnHolds}
+use Rattle.rules.specs.Types.{Frame, Huge, Tree, Order, Block, CpuEntry, Giving, Record, Answer}
+
+module _ (g : Shape) (cpu : ℕ) where
+  abbrev pub put : Giving → Answer
+  put s = Answer.UnderWay (Record.Put cpu s)
+
+  -- first the clearing store: order 0 clears the bit, order 9 changes a set into a clear, count 512
+  unfoldable pub clear : Block → Step
+  clear (Block.Base f) =
+      let b : Block = Block.Base f in
+      wordEntry (treeOfBlock g b) (childWords * childOfBlock g b + wordOf f) (λ x. onGave (clearRun (size Order.Zero) (bitOf f) x) (put (Giving.Raise f)) (clears b))
+  clear (Block.Whole h) =
+      let b : Block = Block.Whole h in
+      childEntry (treeOfBlock g b) (childOfBlock g b) (λ x. onGave (clearHuge x) (put (Giving.ToEntry b)) (clears b))
+
+  unfoldable pub give : Giving → Step
+  give (Giving.Clear b) = clear b
+  -- for order 0 the child's count then rises by 1
+  give (Giving.Raise f) =
+      let b : Block = Block.Base f in
+      childEntry (treeOfBlock g b) (childOfBlock g b) (λ x. onGave (giveCount (size Order.Zero) x) (put (Giving.ToEntry b)) plain)
+  -- next, if the own entry holds that tree, its count rises by s and the put is answered; if not, nothing is stored
+  give (Giving.ToEntry b) = ifOwnHolds g cpu (treeOfBlock g b) (λ s k. store (CpuEntry.Holds (treeOfBlock g b) s (k + sizeOf b)) (Answer.Done (firstOf b))) (look (put (Giving.ToTree b)))
+  -- and one more step adds s to the tree's count and answers; the reserved flag stays
+  give (Giving.ToTree b) = treeEntry (treeOfBlock g b) (λ r k. store (tally r (k + sizeOf b)) (Answer.Done (firstOf b)))

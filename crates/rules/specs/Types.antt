@@ -1,0 +1,24 @@
+-- The types that src/ declares, under one name. A value of a type is written behind it: `Record.Finished`.
+pub use Rattle.rules.specs.declared.Frame.{Frame}
+pub use Rattle.rules.specs.declared.Huge.{Huge}
+pub use Rattle.rules.specs.declared.Tree.{Tree}
+pub use Rattle.rules.specs.declared.HugeAt.{HugeAt}
+pub use Rattle.rules.specs.declared.TreeAt.{TreeAt}
+pub use Rattle.rules.specs.declared.Order.{Order}
+pub use Rattle.rules.specs.declared.Block.{Block}
+pub use Rattle.rules.specs.declared.Header.{Header}
+pub use Rattle.rules.specs.declared.ChildEntry.{ChildEntry}
+pub use Rattle.rules.specs.declared.TreeEntry.{TreeEntry}
+pub use Rattle.rules.specs.declared.CpuEntry.{CpuEntry}
+pub use Rattle.rules.specs.declared.Took.{Took}
+pub use Rattle.rules.specs.declared.Bit.{Bit}
+pub use Rattle.rules.specs.declared.Gave.{Gave}
+pub use Rattle.rules.specs.declared.Pass.{Pass}
+pub use Rattle.rules.specs.declared.Found.{Found}
+pub use Rattle.rules.specs.declared.Place.{Place}
+pub use Rattle.rules.specs.declared.Taking.{Taking}
+pub use Rattle.rules.specs.declared.Giving.{Giving}
+pub use Rattle.rules.specs.declared.Creating.{Creating}
+pub use Rattle.rules.specs.declared.Opening.{Opening}
+pub use Rattle.rules.specs.declared.Record.{Record}
+pub use Rattle.rules.specs.declared.Answer.{Answer}

@@ -1,0 +1,61 @@
+-- Document 01's sample words, its session worked by hand, and its class edges: one proved table.
+use mathlib.Core.Path.{_≡_}
+use mathlib.Core.Bool.{Bool, true, false}
+use mathlib.Core.List.{List, [], _∷_}
+use Prim.Native.Nat.{ℕ, _+_, _*_, _^_}
+use lib.ListN.{getD, replicate}
+use Rattle.rules.specs.Numbers.{Shape, format1}
+use Rattle.rules.specs.Conversions.{frame, tree}
+use Rattle.rules.specs.Answers.{number, frameOf}
+use Rattle.rules.specs.Entries.{headerWord, running, clean, cpuWord}
+use Rattle.rules.specs.Zone.{Zone, shapeOf}
+use Rattle.rules.specs.Places.{classOf, allocated, partial, free}
+use Rattle.rules.specs.Begin.{beginGet, beginPut}
+use Rattle.rules.specs.Step.{Ran, follow, mostGet}
+use Rattle.rules.specs.Types.{CpuEntry, Answer}
+
+-- ---- requests, run one after another, and what is printed of each
+pub data Request : Type 0 where
+  g : (cpu order : ℕ) → Request
+  p : (cpu frame order : ℕ) → Request
+
+pub record Line : Type 0 where
+  pub answer : ℕ
+  pub frame : ℕ
+  pub steps : ℕ
+
+abbrev pub line : ℕ → ℕ → ℕ → Line
+line a f s = record { answer = a; frame = f; steps = s }
+
+abbrev pub begun : Zone → Request → Answer
+begun z (g cpu o) = beginGet z cpu o .answer
+begun z (p cpu f o) = beginPut z cpu (frame f) o .answer
+
+pub record Session : Type 0 where
+  pub lines : List Line
+  pub zone : Zone
+
+unfoldable pub session : List Request → Zone → Session
+session [] z = record { lines = []; zone = z }
+session (q ∷ l) z =
+    let e : Ran = follow (mostGet (shapeOf z)) 0 (begun z q) z in
+    let s : Session = session l (e .zone) in
+    record { lines = line (number (e .answer)) (frameOf (e .answer)) (e .steps) ∷ s .lines; zone = s .zone }
+
+unfoldable pub test : Zone
+test = record { header = headerWord running 65 ∷ []; words = replicate 520 0; children = replicate 65 512; trees = 16384 ∷ 16384 ∷ 512 ∷ []; cpus = 0 ∷ 0 ∷ [] }
+
+pub record Words : Type 0 where
+  pub running65 : headerWord running 65 ≡ 0x4C46140082000000
+  pub clean65 : headerWord clean 65 ≡ 0x4C46180082000000
+  pub running65536 : headerWord running 65536 ≡ 0x4C46160000000000
+  pub entry : cpuWord format1 (CpuEntry.Holds (tree 1) 0 16383) ≡ 0x80103FFF00000000
+
+pub record Table (z : Zone) : Type 0 where
+  pub lines : session (g 0 0 ∷ g 1 0 ∷ g 0 9 ∷ p 1 0 0 ∷ p 1 0 0 ∷ g 2 0 ∷ p 0 33280 0 ∷ p 0 1 9 ∷ []) z .lines
+      ≡ line 0 0 9 ∷ line 0 16384 10 ∷ line 0 512 4 ∷ line 0 0 4 ∷ line 6 0 1 ∷ line 7 0 0 ∷ line 4 0 0 ∷ line 5 0 0 ∷ []
+  pub tree0 : getD (session (g 0 0 ∷ g 1 0 ∷ g 0 9 ∷ p 1 0 0 ∷ []) z .zone .trees) 0 0 ≡ 0x8001
+  pub below : classOf 2047 ≡ allocated
+  pub low : classOf 2048 ≡ partial
+  pub high : classOf 14336 ≡ partial
+  pub above : classOf 14337 ≡ free
