@@ -1,30 +1,14 @@
 -- The worked examples, by computation.
 use mathlib.Core.Path.{_≡_, refl}
-use Rattle.laws.specs.Fields.{width, split, join}
-use Rattle.laws.specs.Sum.{sumTo, run, upd, sumL}
-use Rattle.laws.specs.Tests.{pick, every, passes}
-use Rattle.laws.specs.Words.{zeros, lowest}
-use Rattle.rules.specs.Begin.{isOrder, orderOf, beginGet, beginPut}
-use Rattle.rules.specs.Checks.{isMalformed, isClean, isRunning}
-use Rattle.rules.specs.Create.{createZone, createStage, createAct, createStep}
-use Rattle.rules.specs.Entries.{field, headerSays, headerWord, treeSays, treeWord, cpuSays, cpuWord}
-use Rattle.rules.specs.Give.{clear, give}
-use Rattle.rules.specs.Lower.{childSays, countWord, flaggedWord, byChild, claim, takeHuge, giveCount, clearHuge, takeRun, clearRun, freshWord, freshChild, wellFormed, isFlagged, countIn, recount, zeroBits, emptyField, partSum}
-use Rattle.rules.specs.Numbers.{treesOf, childrenOf}
-use Rattle.rules.specs.Open.{childrenFormed, flagsEmpty, treesFormed, cpusFormed, childSettled, treeCount, cpuCount, childCount, treeSettled, settled, openSound, openZone, openingSound, openStepSound, openStage, openAct, openStep, closeSound, closeZone}
-use Rattle.rules.specs.Places.{classOf, fits, afterPass, afterSteal, afterPlace}
-use Rattle.rules.specs.Plan.{guarded, byChange, byCpu, byTree, laidOut, toCpu, toTree, toChild, toWord, carried, byTook, byBit, byGave}
-use Rattle.rules.specs.Ranges.{passIn, foundIn, placeIn, takingIn, givingIn, creatingIn, openingIn, stepRange, createRange, openRange}
-use Rattle.rules.specs.Step.{act, step, follow}
-use Rattle.rules.specs.Take.{claimOwn, release, write, stealCount, nextChild, searchChild, searchWord, take}
-use Rattle.rules.specs.Worked.{session, test}
-use Rattle.rules.specs.Zone.{headerOf, hugeIn, stored}
-use Rattle.rules.specs.Worked.{Words, Table}
+use Rattle.laws.specs.Fields.{width, join}
+use Rattle.rules.specs.Entries.{headerWord, cpuWord}
+use Rattle.rules.specs.Worked.{Words, Table, session, test}
+use Rattle.rules.proofs.Computed.{by-computation}
 
 pub sample-words : Words
 unfolding headerWord cpuWord join width
 sample-words = record { running65 = refl; clean65 = refl; running65536 = refl; entry = refl }
 
 pub worked : Table test
-unfolding width split join sumTo run upd sumL pick every passes zeros lowest isOrder orderOf beginGet beginPut isMalformed isClean isRunning createZone createStage createAct createStep field headerSays headerWord treeSays treeWord cpuSays cpuWord clear give childSays countWord flaggedWord byChild claim takeHuge giveCount clearHuge takeRun clearRun freshWord freshChild wellFormed isFlagged countIn recount zeroBits emptyField partSum treesOf childrenOf childrenFormed flagsEmpty treesFormed cpusFormed childSettled treeCount cpuCount childCount treeSettled settled openSound openZone openingSound openStepSound openStage openAct openStep closeSound closeZone classOf fits afterPass afterSteal afterPlace guarded byChange byCpu byTree laidOut toCpu toTree toChild toWord carried byTook byBit byGave passIn foundIn placeIn takingIn givingIn creatingIn openingIn stepRange createRange openRange act step follow claimOwn release write stealCount nextChild searchChild searchWord take session test headerOf hugeIn stored
+unfolding by-computation session test
 worked = record { lines = refl; tree0 = refl; below = refl; low = refl; high = refl; above = refl }

@@ -43,3 +43,15 @@ frameOf a = byAnswer a (λ f. f) (λ r. 0) 0
 
 abbrev pub recordOf : Answer → Record
 recordOf a = byAnswer a (λ f. Record.Finished) (λ r. r) Record.Finished
+
+-- whether an operation ends with an answer, or goes on with a record
+pub data Next : Type 0 where
+  ends : Next
+  goesOn : (r : Record) → Next
+
+abbrev pub nextOf : Answer → Next
+nextOf a = byAnswer a (λ f. ends) goesOn ends
+
+abbrev pub byNext {ℓ} : {A : Type ℓ} → Next → A → (Record → A) → A
+byNext ends e f = e
+byNext (goesOn r) e f = f r

@@ -17,3 +17,4 @@ pub mod Step
 pub mod Create
 pub mod Open
 pub mod Worked
+pub mod Bounds

@@ -3,7 +3,7 @@ use mathlib.Core.Bool.{Bool, true, false}
 use mathlib.Core.List.{List, [], _∷_, _++_}
 use Prim.Native.Nat.{ℕ, zero, suc, _+_, _*_}
 use Rattle.rules.specs.Numbers.{childWords, nearTrees, Format, Shape, perTree, treesOf}
-use Rattle.rules.specs.Answers.{byAnswer}
+use Rattle.rules.specs.Answers.{nextOf, byNext}
 use Rattle.rules.specs.Zone.{Zone, shapeOf, stored}
 use Rattle.rules.specs.Plan.{Plan, Step, noEntry, carried, guarded}
 use Rattle.rules.specs.Checks.{notOpen, unless}
@@ -39,14 +39,14 @@ ran a k z = record { answer = a; steps = k; zone = z }
 -- at most `fuel` steps after an answer; k steps were made
 unfoldable pub follow : ℕ → ℕ → Answer → Zone → Ran
 follow zero k a z = ran a k z
-follow (suc fuel) k a z = byAnswer a (λ f. ran a k z) (λ r. let p : Plan = step z r in follow fuel (suc k) (p .answer) (after z p)) (ran a k z)
+follow (suc fuel) k a z = byNext (nextOf a) (ran a k z) (λ r. let p : Plan = step z r in follow fuel (suc k) (p .answer) (after z p))
 
 -- at most `fuel` steps of a record
 abbrev pub runs : ℕ → Zone → Record → Ran
 runs fuel z r = follow fuel 0 (Answer.UnderWay r) z
 
 -- the most steps of a get, 330 (3 trees + CPUs + 33) where a tree has 32 children, and of a put
-abbrev pub searchSteps : Shape → ℕ
+unfoldable pub searchSteps : Shape → ℕ
 searchSteps g = (childWords + 2) * perTree g + 10
 
 abbrev pub mostGet : Shape → ℕ

@@ -18,16 +18,16 @@ pub record Zone : Type 0 where
 unfoldable pub headerOf : Zone → Header
 headerOf z = headerSays (getD (z .header) 0 0)
 
-unfoldable pub hugeIn : Header → ℕ
-hugeIn Header.Malformed = 0
-hugeIn (Header.Running n) = n
-hugeIn (Header.Clean n) = n
+unfoldable pub headerHuge : Header → ℕ
+headerHuge Header.Malformed = 0
+headerHuge (Header.Running n) = n
+headerHuge (Header.Clean n) = n
 
 abbrev pub shaped : ℕ → Zone → Shape
 shaped n z = record { format = format1; huge = n; cpus = length (z .cpus) }
 
 abbrev pub shapeOf : Zone → Shape
-shapeOf z = shaped (hugeIn (headerOf z)) z
+shapeOf z = shaped (headerHuge (headerOf z)) z
 
 -- a tree's children and their words, the middle of the zone's tables that is lent to the lower level
 abbrev pub childPart : Shape → Zone → Tree → List ℕ

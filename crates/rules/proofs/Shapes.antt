@@ -1,0 +1,46 @@
+-- A shape's trees and children: the laws of tree arithmetic, for `treesOf` and `childrenOf`.
+use mathlib.Core.Path.{_≡_, refl, sym, ap, _∙_}
+use Prim.Native.Nat.{ℕ, zero, suc, _+_, _-_, _*_, _/_, _%_, _≤_, _<_, min}
+use native.Mathlib.Omega.{arith}
+use Rattle.laws.proofs.Trees as Trees
+use Rattle.rules.specs.Numbers.{Shape, perTree, treesOf, childrenOf}
+
+module _ (g : Shape) (k+ : 0 < perTree g) where
+  pub tree-first : (t : ℕ) → t < treesOf g → t * perTree g < g .huge
+  unfolding treesOf
+  tree-first = Trees.tree-first (perTree g) (g .huge) k+
+
+  pub some-tree : 0 < g .huge → 0 < treesOf g
+  unfolding treesOf
+  some-tree h = Trees.first-tree (perTree g) (g .huge) k+ 0 (omega arith)
+
+  pub kids-some : (t : ℕ) → t < treesOf g → 0 < childrenOf g t
+  unfolding treesOf childrenOf
+  kids-some = Trees.kids-some (perTree g) (g .huge) k+
+
+  pub kids-most : (t : ℕ) → childrenOf g t ≤ perTree g
+  unfolding childrenOf
+  kids-most = Trees.kids-most (perTree g) (g .huge) k+
+
+  pub child-in : (t c : ℕ) → c < childrenOf g t → t * perTree g + c < g .huge
+  unfolding childrenOf
+  child-in = Trees.child-in (perTree g) (g .huge) k+
+
+  pub tree-of-child : (t c : ℕ) → c < childrenOf g t → (t * perTree g + c) / perTree g ≡ t
+  unfolding childrenOf
+  tree-of-child = Trees.tree-of-child (perTree g) (g .huge) k+
+
+  pub number-of-child : (t c : ℕ) → c < childrenOf g t → (t * perTree g + c) % perTree g ≡ c
+  unfolding childrenOf
+  number-of-child = Trees.number-of-child (perTree g) (g .huge) k+
+
+  pub huge-is : (h : ℕ) → h / perTree g * perTree g + h % perTree g ≡ h
+  huge-is = Trees.huge-is (perTree g) (g .huge) k+
+
+  pub tree-in : (h : ℕ) → h < g .huge → h / perTree g < treesOf g
+  unfolding treesOf
+  tree-in = Trees.tree-in (perTree g) (g .huge) k+
+
+  pub number-in : (h : ℕ) → h < g .huge → h % perTree g < childrenOf g (h / perTree g)
+  unfolding childrenOf
+  number-in = Trees.number-in (perTree g) (g .huge) k+
