@@ -102,14 +102,14 @@ unfolding step stored headerOf
 after-shape z r = guarded-elim (λ (p : Plan). SameShape z (p .store)) _ _ (refl, (refl, (refl, (refl, (refl, tt))))) (λ n. stores (shapeOf z) z (SameShape z) refl (act (shapeOf z) r)
     (λ j e. ap (λ k. record { format = format1; huge = shapeOf z .huge; cpus = k }) (length-set (z .cpus) j _)) (λ i r k. refl) (λ i v. refl) (λ i v. refl))
 
-follow-ends : (fuel k : ℕ) (a : Answer) (z : Zone) → Falls (shapeOf z) fuel a → Ends (follow fuel k a z .answer)
+follow-ends : (fuel k : ℕ) (a : Answer) (z : Zone) → Falls (shapeOf z) fuel a → Ends (follow step fuel k a z .answer)
 unfolding follow
 follow-ends zero k a z h = falls-end (shapeOf z) (nextOf a) h
 follow-ends (suc fuel) k a z h = go (nextOf a) refl h (λ r. follow-ends fuel (suc k) (step z r .answer) (after z (step z r)))
   where
     go : (x : Next) → nextOf a ≡ x → byNext x (Unit {0}) (λ r. Passes (stepRange (shapeOf z) r) × (left (shapeOf z) r < suc fuel))
-        → ((r : Record) → Falls (shapeOf (after z (step z r))) fuel (step z r .answer) → Ends (follow fuel (suc k) (step z r .answer) (after z (step z r)) .answer))
-        → Ends (byNext x (ran a k z) (λ r. follow fuel (suc k) (step z r .answer) (after z (step z r))) .answer)
+        → ((r : Record) → Falls (shapeOf (after z (step z r))) fuel (step z r .answer) → Ends (follow step fuel (suc k) (step z r .answer) (after z (step z r)) .answer))
+        → Ends (byNext x (ran a k z) (λ r. follow step fuel (suc k) (step z r .answer) (after z (step z r))) .answer)
     go ends e p ih = rw e tt
     go (goesOn r) e p ih = ih r (rw (after-shape z r) (falls-less (shapeOf z) (left (shapeOf z) r) fuel (nextOf (step z r .answer)) (omega (arith, p .1)) (step-falls z r)))
 

@@ -155,7 +155,7 @@ module _ (g : Shape) (k+ : 0 < perTree g) (n+ : 0 < g .huge) (cpu : ℕ) (l : cp
   pass-tree (Pass.Free t) h = h .0
   pass-tree (Pass.Any t) h = h .0
 
-  found-tree : (f : Found) → Passes (foundIn g cpu f) → foundTree f .0 < treesOf g
+  pub found-tree : (f : Found) → Passes (foundIn g cpu f) → foundTree f .0 < treesOf g
   unfolding foundIn
   found-tree (Found.Pass p) h = pass-tree p h
   found-tree (Found.Steal j t) h = h .1 .1 .0

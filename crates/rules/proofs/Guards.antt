@@ -9,11 +9,11 @@ use lib.ListN.{getD}
 use borrow.Author.Tests.{eqb-true, eqb-false, leb-true, leb-false, not-false}
 use Rattle.laws.specs.Tests.{pick, Check, _is_, passes, Passes}
 use Rattle.laws.proofs.Tests.{pick-elim, true-false, all-passed}
-use Rattle.rules.specs.Types.{Tree, TreeEntry, CpuEntry, Took, Bit, Gave, Answer}
+use Rattle.rules.specs.Types.{Tree, ChildEntry, TreeEntry, CpuEntry, Took, Bit, Gave, Answer}
 use Rattle.rules.specs.Numbers.{Shape, capacity}
 use Rattle.rules.specs.Conversions.{tree}
 use Rattle.rules.specs.Entries.{field, cpuLayout, treeLayout, holdsChecks, treeSays, cpuSays}
-use Rattle.rules.specs.Lower.{Change, keep, become, Lowered}
+use Rattle.rules.specs.Lower.{Change, keep, become, Lowered, byChild}
 use Rattle.rules.specs.Zone.{Zone, Store, nothing, header, word, child, tree as treeStore, cpu, treeEntryAt, cpuEntryAt, childPart, wordPart}
 use Rattle.rules.specs.Plan.{Mark, plain, Plan, refuse, Refusal, guarded, Made, look, Tally, Step, noEntry, cpuEntry, treeEntry, childEntry, wordEntry, byChange, byCpu, byTree, made, laidOut, toCpu, toTree, toChild, toWord, carried, lowered, byTook, byBit, byGave, onTook, onBit, onGave}
 
@@ -47,6 +47,12 @@ pub tree-elim : {A : Type 0} (Q : A → Type 0) (e : TreeEntry) {d : A} {f : ℕ
 unfolding byTree
 tree-elim Q TreeEntry.Damaged x y = x refl
 tree-elim Q (TreeEntry.Counts r k) x y = y r k refl
+
+pub child-elim : {A : Type 0} (Q : A → Type 0) (e : ChildEntry) {d a : A} {f : ℕ → A} → (e ≡ ChildEntry.Damaged → Q d) → ((k : ℕ) → e ≡ ChildEntry.Counts k → Q (f k)) → (e ≡ ChildEntry.Flagged → Q a) → Q (byChild e d f a)
+unfolding byChild
+child-elim Q ChildEntry.Damaged x y w = x refl
+child-elim Q (ChildEntry.Counts k) x y w = y k refl
+child-elim Q ChildEntry.Flagged x y w = w refl
 
 pub change-elim : {A B : Type 0} (Q : B → Type 0) (c : Change A) {k : B} {f : A → B} → (c ≡ keep → Q k) → ((v : A) → c ≡ become v → Q (f v)) → Q (byChange c k f)
 unfolding byChange

@@ -101,5 +101,5 @@ pub record Bounds : Type 0 where
   pub get : (g : Shape) (zs : ℕ → Zone) → ((i : ℕ) → shapeOf (zs i) ≡ g) → (cpu o : ℕ) → Ends (among zs (mostGet g) (beginGet (zs 0) cpu o .answer))
   pub put : (g : Shape) (zs : ℕ → Zone) → ((i : ℕ) → shapeOf (zs i) ≡ g) → (cpu : ℕ) (f : Frame) (o : ℕ) → Ends (among zs mostPut (beginPut (zs 0) cpu f o .answer))
   -- a run with that fuel never runs out
-  pub getRun : (z : Zone) (cpu o : ℕ) → Ends (follow (mostGet (shapeOf z)) 0 (beginGet z cpu o .answer) z .answer)
-  pub putRun : (z : Zone) (cpu : ℕ) (f : Frame) (o : ℕ) → Ends (follow mostPut 0 (beginPut z cpu f o .answer) z .answer)
+  pub getRun : (z : Zone) (cpu o : ℕ) → Ends (follow step (mostGet (shapeOf z)) 0 (beginGet z cpu o .answer) z .answer)
+  pub putRun : (z : Zone) (cpu : ℕ) (f : Frame) (o : ℕ) → Ends (follow step mostPut 0 (beginPut z cpu f o .answer) z .answer)

@@ -18,3 +18,5 @@ pub mod Create
 pub mod Open
 pub mod Worked
 pub mod Bounds
+pub mod Refusals
+pub mod Fresh

@@ -27,7 +27,7 @@ step z r = guarded (notOpen z ++ (unless (stepRange (shapeOf z) r) Answer.BadRec
 abbrev pub after : Zone → Plan → Zone
 after z p = stored (shapeOf z .format) z (p .store)
 
--- ---- a run: the answer, the steps made, and the tables after them
+-- ---- a run of an operation alone: the answer, the steps made, and the tables after them
 pub record Ran : Type 0 where
   pub answer : Answer
   pub steps : ℕ
@@ -36,14 +36,14 @@ pub record Ran : Type 0 where
 abbrev pub ran : Answer → ℕ → Zone → Ran
 ran a k z = record { answer = a; steps = k; zone = z }
 
--- at most `fuel` steps after an answer; k steps were made
-unfoldable pub follow : ℕ → ℕ → Answer → Zone → Ran
-follow zero k a z = ran a k z
-follow (suc fuel) k a z = byNext (nextOf a) (ran a k z) (λ r. let p : Plan = step z r in follow fuel (suc k) (p .answer) (after z p))
+-- at most `fuel` steps of an operation after an answer; k steps were made
+unfoldable pub follow : (Zone → Record → Plan) → ℕ → ℕ → Answer → Zone → Ran
+follow f zero k a z = ran a k z
+follow f (suc fuel) k a z = byNext (nextOf a) (ran a k z) (λ r. let p : Plan = f z r in follow f fuel (suc k) (p .answer) (after z p))
 
--- at most `fuel` steps of a record
+-- at most `fuel` steps of a get's or put's record
 abbrev pub runs : ℕ → Zone → Record → Ran
-runs fuel z r = follow fuel 0 (Answer.UnderWay r) z
+runs fuel z r = follow step fuel 0 (Answer.UnderWay r) z
 
 -- the most steps of a get, 330 (3 trees + CPUs + 33) where a tree has 32 children, and of a put
 unfoldable pub searchSteps : Shape → ℕ

@@ -11,7 +11,7 @@ use Rattle.rules.specs.Entries.{headerWord, running, clean, cpuWord}
 use Rattle.rules.specs.Zone.{Zone, shapeOf}
 use Rattle.rules.specs.Places.{classOf, allocated, partial, free}
 use Rattle.rules.specs.Begin.{beginGet, beginPut}
-use Rattle.rules.specs.Step.{Ran, follow, mostGet}
+use Rattle.rules.specs.Step.{step, Ran, follow, mostGet}
 use Rattle.rules.specs.Types.{CpuEntry, Answer}
 
 -- ---- requests, run one after another, and what is printed of each
@@ -38,7 +38,7 @@ pub record Session : Type 0 where
 unfoldable pub session : List Request → Zone → Session
 session [] z = record { lines = []; zone = z }
 session (q ∷ l) z =
-    let e : Ran = follow (mostGet (shapeOf z)) 0 (begun z q) z in
+    let e : Ran = follow step (mostGet (shapeOf z)) 0 (begun z q) z in
     let s : Session = session l (e .zone) in
     record { lines = line (number (e .answer)) (frameOf (e .answer)) (e .steps) ∷ s .lines; zone = s .zone }
 

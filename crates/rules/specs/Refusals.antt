@@ -1,0 +1,269 @@
+-- Each number's rule as a fact of the input, apart from the plans; and that a call answers the first number of its list whose rule holds.
+use mathlib.Core.Path.{_≡_}
+use mathlib.Core.Logic.{_⊎_, _≢_}
+use mathlib.Core.Bool.{Bool, true, false}
+use mathlib.Core.List.{List, [], _∷_, _++_}
+use Prim.Native.Nat.{ℕ, zero, suc, _+_, _*_, _%_, _≤_, _<_}
+use lib.ListN.{length, getD}
+use Rattle.laws.specs.Tests.{Passes}
+use Rattle.laws.specs.Sum.{sumTo}
+use Rattle.laws.specs.Words.{bit}
+use Rattle.rules.specs.Types.{Frame, Huge, Tree, Block, ChildEntry, TreeEntry, CpuEntry, Taking, Giving, Opening, Record, Answer}
+use Rattle.rules.specs.Numbers.{childFrames, childWords, Shape, treesOf, childrenOf, capacity}
+use Rattle.rules.specs.Conversions.{huge, tree}
+use Rattle.rules.specs.Blocks.{size, sizeOf, treeOfBlock, childOfBlock, wordOf, bitOf}
+use Rattle.rules.specs.Answers.{number}
+use Rattle.rules.specs.Entries.{headerChecks, markerOf, running, clean}
+use Rattle.rules.specs.Lower.{childSays, zeroBits, emptyField}
+use Rattle.rules.specs.Zone.{Zone, shaped, shapeOf, childPart, wordPart, treeEntryAt, cpuEntryAt, nothing}
+use Rattle.rules.specs.Plan.{Plan}
+use Rattle.rules.specs.Checks.{lengthChecks}
+use Rattle.rules.specs.Ranges.{stepRange, createRange, openRange}
+use Rattle.rules.specs.Places.{passTree, foundTree, placeTree}
+use Rattle.rules.specs.Begin.{beginGet, beginPut}
+use Rattle.rules.specs.Step.{step}
+use Rattle.rules.specs.Create.{sizeChecks, createZone, createStep}
+use Rattle.rules.specs.Open.{childAt, zerosAt, emptyAt, treeCount, cpuCount, childCount, openZone, openStep, closeZone}
+
+-- ---- lists of rules
+
+pub record Rule : Type 1 where
+  pub no : ℕ
+  pub holds : Type 0
+
+infix 69 _when_
+abbrev pub _when_ : ℕ → Type 0 → Rule
+_when_ n P = record { no = n; holds = P }
+
+-- m is the first number whose rule holds; where none does, it is as `Else` says
+abbrev pub First : List Rule → (ℕ → Type 0) → ℕ → Type 0
+First [] Else m = Else m
+First (x ∷ l) Else m = (x .holds × (m ≡ x .no)) ⊎ ((x .holds → ⊥) × First l Else m)
+
+-- ---- 8, 9, 10: the header and the lengths
+
+abbrev pub word0 : Zone → ℕ
+word0 z = getD (z .header) 0 0
+
+abbrev pub HeaderMissing : Zone → Type 0
+HeaderMissing z = length (z .header) ≢ 1
+
+-- identifier, format, n, zero bits, and one of the two markers
+abbrev pub WellFormed : ℕ → Type 0
+WellFormed x = Passes (headerChecks x) × ((markerOf x ≡ running) ⊎ (markerOf x ≡ clean))
+
+abbrev pub NotAZone : Zone → Type 0
+NotAZone z = WellFormed (word0 z) → ⊥
+
+abbrev pub IsClosed : Zone → Type 0
+IsClosed z = markerOf (word0 z) ≡ clean
+
+abbrev pub WrongLength : Shape → Zone → Type 0
+WrongLength g z = Passes (lengthChecks g z) → ⊥
+
+abbrev pub openRules : Zone → List Rule
+openRules z = 8 when HeaderMissing z ∷ 9 when NotAZone z ∷ 10 when IsClosed z ∷ 8 when WrongLength (shapeOf z) z ∷ []
+
+-- ---- 7, 3, 4, 5: a beginning
+
+abbrev pub getRules : Zone → ℕ → ℕ → List Rule
+getRules z cpu o = openRules z ++ (7 when (length (z .cpus) ≤ cpu) ∷ 3 when ((o ≢ 0) × (o ≢ 9)) ∷ [])
+
+abbrev pub frameRules : Zone → Frame → ℕ → List Rule
+frameRules z f o = 4 when (childFrames * shapeOf z .huge ≤ f .0) ∷ 5 when ((o ≡ 9) × (f .0 % childFrames ≢ 0)) ∷ []
+
+abbrev pub putRules : Zone → ℕ → Frame → ℕ → List Rule
+putRules z cpu f o = getRules z cpu o ++ frameRules z f o
+
+-- ---- 11, 12, 6: a step
+
+-- the entry that a stage reads
+pub data Reads : Type 0 where
+  noEntry : Reads
+  cpuAt : (j : ℕ) → Reads
+  treeAt : (t : Tree) → Reads
+  childOf : (t : Tree) (c : ℕ) → Reads
+  wordOfTree : (t : Tree) (i : ℕ) → Reads
+
+module _ (g : Shape) (z : Zone) where
+  abbrev pub childEntryAt : Tree → ℕ → ChildEntry
+  childEntryAt t c = childSays (getD (childPart g z t) c 0)
+
+  -- it breaks its layout; a word has none
+  abbrev pub Broken : Reads → Type 0
+  Broken noEntry = ⊥
+  Broken (cpuAt j) = cpuEntryAt g z j ≡ CpuEntry.Damaged
+  Broken (treeAt t) = treeEntryAt g z t ≡ TreeEntry.Damaged
+  Broken (childOf t c) = childEntryAt t c ≡ ChildEntry.Damaged
+  Broken (wordOfTree t i) = ⊥
+
+  -- a sum that would pass the capacity, in a tree's entry, and in CPU j's if it holds the tree
+  abbrev pub TreePasses : Tree → ℕ → Type 0
+  TreePasses t h = (r : ℕ) × (k : ℕ) × (treeEntryAt g z t ≡ TreeEntry.Counts r k) × (capacity g (t .0) < k + h)
+
+  abbrev pub CpuPasses : ℕ → Tree → ℕ → Type 0
+  CpuPasses j t h = (s : ℕ) × (k : ℕ) × (cpuEntryAt g z j ≡ CpuEntry.Holds t s k) × (capacity g (t .0) < k + h)
+
+  -- a count that would pass 512, or rise with a set
+  abbrev pub ChildPasses : Tree → ℕ → ℕ → Type 0
+  ChildPasses t c s = (childEntryAt t c ≡ ChildEntry.Flagged) ⊎ ((k : ℕ) × (childEntryAt t c ≡ ChildEntry.Counts k) × (childFrames < k + s))
+
+  abbrev pub takingReads : ℕ → Taking → Reads
+  takingReads j (Taking.Own o) = cpuAt j
+  takingReads j (Taking.TakeCount o t) = treeAt t
+  takingReads j (Taking.FillEntry o t h) = cpuAt j
+  takingReads j (Taking.ReturnHand o t h) = treeAt t
+  takingReads j (Taking.LookAgain o t) = cpuAt j
+  takingReads j (Taking.Release o p) = cpuAt j
+  takingReads j (Taking.Unreserve o p h) = treeAt (placeTree p)
+  takingReads j (Taking.Try o p) = treeAt (passTree p)
+  takingReads j (Taking.Write o f h) = cpuAt j
+  takingReads j (Taking.Steal o i) = cpuAt i
+  takingReads j (Taking.StealCount o i t h) = treeAt t
+  takingReads j (Taking.Child o p s c) = childOf (placeTree p) c
+  takingReads j (Taking.Word p s c w) = wordOfTree (placeTree p) (childWords * c + w)
+  takingReads j (Taking.GiveBack p s c) = childOf (placeTree p) c
+  takingReads j (Taking.Last b) = cpuAt j
+  takingReads j (Taking.Fail o p) = treeAt (placeTree p)
+  takingReads j Taking.NoRoom = noEntry
+
+  -- what would be stored breaks its layout, or a sum would pass its limit
+  abbrev pub TakingPasses : ℕ → Taking → Type 0
+  TakingPasses j (Taking.Own o) = ⊥
+  TakingPasses j (Taking.TakeCount o t) = ⊥
+  TakingPasses j (Taking.FillEntry o t h) = CpuPasses j t h
+  TakingPasses j (Taking.ReturnHand o t h) = TreePasses t h
+  TakingPasses j (Taking.LookAgain o t) = ⊥
+  TakingPasses j (Taking.Release o p) = ⊥
+  TakingPasses j (Taking.Unreserve o p h) = TreePasses (placeTree p) h
+  TakingPasses j (Taking.Try o p) = ⊥
+  TakingPasses j (Taking.Write o f h) = h < size o
+  TakingPasses j (Taking.Steal o i) = ⊥
+  TakingPasses j (Taking.StealCount o i t h) = TreePasses t h
+  TakingPasses j (Taking.Child o p s c) = ⊥
+  TakingPasses j (Taking.Word p s c w) = ⊥
+  TakingPasses j (Taking.GiveBack p s c) = ChildPasses (placeTree p) c 1
+  TakingPasses j (Taking.Last b) = ⊥
+  TakingPasses j (Taking.Fail o p) = TreePasses (placeTree p) (size o)
+  TakingPasses j Taking.NoRoom = ⊥
+
+  abbrev pub givingReads : ℕ → Giving → Reads
+  givingReads j (Giving.Clear (Block.Base f)) = wordOfTree (treeOfBlock g (Block.Base f)) (childWords * childOfBlock g (Block.Base f) + wordOf f)
+  givingReads j (Giving.Clear (Block.Whole h)) = childOf (treeOfBlock g (Block.Whole h)) (childOfBlock g (Block.Whole h))
+  givingReads j (Giving.Raise f) = childOf (treeOfBlock g (Block.Base f)) (childOfBlock g (Block.Base f))
+  givingReads j (Giving.ToEntry b) = cpuAt j
+  givingReads j (Giving.ToTree b) = treeAt (treeOfBlock g b)
+
+  abbrev pub GivingPasses : ℕ → Giving → Type 0
+  GivingPasses j (Giving.Clear b) = ⊥
+  GivingPasses j (Giving.Raise f) = ChildPasses (treeOfBlock g (Block.Base f)) (childOfBlock g (Block.Base f)) 1
+  GivingPasses j (Giving.ToEntry b) = CpuPasses j (treeOfBlock g b) (sizeOf b)
+  GivingPasses j (Giving.ToTree b) = TreePasses (treeOfBlock g b) (sizeOf b)
+
+  -- 6: order 0, the bit is clear; order 9, a is clear
+  abbrev pub GivingFree : Giving → Type 0
+  GivingFree (Giving.Clear (Block.Base f)) = bit (bitOf f) (getD (wordPart g z (treeOfBlock g (Block.Base f))) (childWords * childOfBlock g (Block.Base f) + wordOf f) 0) ≡ 0
+  GivingFree (Giving.Clear (Block.Whole h)) = (k : ℕ) × (childEntryAt (treeOfBlock g (Block.Whole h)) (childOfBlock g (Block.Whole h)) ≡ ChildEntry.Counts k)
+  GivingFree (Giving.Raise f) = ⊥
+  GivingFree (Giving.ToEntry b) = ⊥
+  GivingFree (Giving.ToTree b) = ⊥
+
+  abbrev pub Damage : Record → Type 0
+  Damage Record.Finished = ⊥
+  Damage (Record.Get j s) = Broken (takingReads j s) ⊎ TakingPasses j s
+  Damage (Record.Put j s) = Broken (givingReads j s) ⊎ GivingPasses j s
+  Damage (Record.Create s) = ⊥
+  Damage (Record.Open s) = ⊥
+
+  abbrev pub NotTaken : Record → Type 0
+  NotTaken Record.Finished = ⊥
+  NotTaken (Record.Get j s) = ⊥
+  NotTaken (Record.Put j s) = GivingFree s
+  NotTaken (Record.Create s) = ⊥
+  NotTaken (Record.Open s) = ⊥
+
+  abbrev pub OutOfRange : Record → Type 0
+  OutOfRange r = Passes (stepRange g r) → ⊥
+
+  -- 12 or 6, with 12 first
+  abbrev pub entryRules : Record → List Rule
+  entryRules r = 12 when Damage r ∷ 6 when NotTaken r ∷ []
+
+abbrev pub stepRules : Zone → Record → List Rule
+stepRules z r = openRules z ++ (11 when OutOfRange (shapeOf z) z r ∷ entryRules (shapeOf z) z r)
+
+-- 0, 1, or the 2 of a get that has tried its last place
+abbrev pub NoRoomAt : Record → Type 0
+NoRoomAt r = (j : ℕ) × (r ≡ Record.Get j Taking.NoRoom)
+
+abbrev pub StepElse : Record → ℕ → Type 0
+StepElse r m = ((m ≡ 0) ⊎ (m ≡ 1)) ⊎ ((m ≡ 2) × NoRoomAt r)
+
+-- ---- create, open, close
+
+abbrev pub sizeRules : ℕ → Zone → List Rule
+sizeRules n z = 14 when (Passes (sizeChecks n) → ⊥) ∷ 8 when HeaderMissing z ∷ 8 when WrongLength (shaped n z) z ∷ []
+
+abbrev pub createStepRules : ℕ → Zone → Record → List Rule
+createStepRules n z r = sizeRules n z ++ (11 when (Passes (createRange (shaped n z) r) → ⊥) ∷ [])
+
+module _ (g : Shape) (z : Zone) where
+  -- a malformed child; a child with a set over a field that isn't all zero; a malformed tree or CPU entry
+  abbrev pub BadChild : Type 0
+  BadChild = (i : ℕ) × (i < g .huge) × (childSays (childAt g z (huge i)) ≡ ChildEntry.Damaged)
+
+  abbrev pub BadField : Type 0
+  BadField = (i : ℕ) × (i < g .huge) × (childSays (childAt g z (huge i)) ≡ ChildEntry.Flagged) × (emptyAt g z (huge i) ≡ false)
+
+  abbrev pub BadTree : Type 0
+  BadTree = (i : ℕ) × (i < treesOf g) × (treeEntryAt g z (tree i) ≡ TreeEntry.Damaged)
+
+  abbrev pub BadCpu : Type 0
+  BadCpu = (j : ℕ) × (j < g .cpus) × (cpuEntryAt g z j ≡ CpuEntry.Damaged)
+
+  -- the child that a later step of open reads, or one of the tree's
+  abbrev pub BadOpening : Record → Type 0
+  BadOpening Record.Finished = ⊥
+  BadOpening (Record.Get j s) = ⊥
+  BadOpening (Record.Put j s) = ⊥
+  BadOpening (Record.Create s) = ⊥
+  BadOpening (Record.Open (Opening.Children h)) = childSays (childAt g z h) ≡ ChildEntry.Damaged
+  BadOpening (Record.Open (Opening.Trees t)) = (c : ℕ) × (c < childrenOf g (t .0)) × (childEntryAt g z t c ≡ ChildEntry.Damaged)
+  BadOpening (Record.Open (Opening.Cpus j)) = ⊥
+
+  -- every child with a clear counts its zero bits, and every tree's count plus the CPU counts that hold it is its children's sum
+  pub record Settled : Type 0 where
+    pub children : (i : ℕ) → i < g .huge → (k : ℕ) → childSays (childAt g z (huge i)) ≡ ChildEntry.Counts k → k ≡ zerosAt g z (huge i)
+    pub trees : (i : ℕ) → i < treesOf g → treeCount g z (tree i) + sumTo (g .cpus) (cpuCount g z (tree i)) ≡ childCount g z (tree i)
+
+abbrev pub openZoneRules : Zone → List Rule
+openZoneRules z = 8 when HeaderMissing z ∷ 9 when NotAZone z ∷ 8 when WrongLength (shapeOf z) z ∷ 12 when (BadChild (shapeOf z) z ⊎ ((markerOf (word0 z) ≡ running) × BadField (shapeOf z) z)) ∷ []
+
+abbrev pub openStepRules : Zone → Record → List Rule
+openStepRules z r = openRules z ++ (11 when (Passes (openRange (shapeOf z) r) → ⊥) ∷ 12 when BadOpening (shapeOf z) z r ∷ [])
+
+abbrev pub closeRules : Zone → List Rule
+closeRules z = let g : Shape = shapeOf z in openRules z ++ (12 when (BadChild g z ⊎ (BadField g z ⊎ (BadTree g z ⊎ BadCpu g z))) ∷ 13 when (Settled g z → ⊥) ∷ [])
+
+-- ---- the promise
+
+abbrev pub Answered : List Rule → (ℕ → Type 0) → Plan → Type 0
+Answered l Else p = First l Else (number (p .answer))
+
+-- from 2 up nothing is stored
+abbrev pub Quiet : Plan → Type 0
+Quiet p = 2 ≤ number (p .answer) → p .store ≡ nothing
+
+pub record Call (l : List Rule) (Else : ℕ → Type 0) (p : Plan) : Type 0 where
+  pub answered : Answered l Else p
+  pub quiet : Quiet p
+
+pub record Refusals : Type 0 where
+  pub beginGet : (z : Zone) (j o : ℕ) → Call (getRules z j o) (λ m. m ≡ 1) (beginGet z j o)
+  pub beginPut : (z : Zone) (j : ℕ) (f : Frame) (o : ℕ) → Call (putRules z j f o) (λ m. m ≡ 1) (beginPut z j f o)
+  pub step : (z : Zone) (r : Record) → Call (stepRules z r) (StepElse r) (step z r)
+  pub create : (n : ℕ) (z : Zone) → Call (sizeRules n z) (λ m. m ≡ 1) (createZone n z)
+  pub createStep : (n : ℕ) (z : Zone) (r : Record) → Call (createStepRules n z r) (λ m. (m ≡ 0) ⊎ (m ≡ 1)) (createStep n z r)
+  pub opens : (z : Zone) → Call (openZoneRules z) (λ m. m ≡ 1) (openZone z)
+  pub openStep : (z : Zone) (r : Record) → Call (openStepRules z r) (λ m. (m ≡ 0) ⊎ (m ≡ 1)) (openStep z r)
+  pub close : (z : Zone) → Call (closeRules z) (λ m. m ≡ 0) (closeZone z)
