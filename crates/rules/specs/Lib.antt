@@ -20,3 +20,4 @@ pub mod Worked
 pub mod Bounds
 pub mod Refusals
 pub mod Fresh
+pub mod Layouts
