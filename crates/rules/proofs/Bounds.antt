@@ -10,7 +10,7 @@ use borrow.Author.Tests.{leb-false, eqb-true, not-false}
 use Rattle.laws.specs.Tests.{pick, passes, Passes}
 use Rattle.laws.proofs.Tests.{pick-elim, true-false, all-passed}
 use Rattle.rules.specs.Types.{Frame, Order, Block, Header, Taking, Giving, Record, Answer}
-use Rattle.rules.specs.Numbers.{Shape, format1, perTree, mostHuge}
+use Rattle.rules.specs.Numbers.{childFrames, Shape, format1, perTree, mostHuge}
 use Rattle.rules.specs.Answers.{Next, ends, goesOn, nextOf, byNext}
 use Rattle.rules.specs.Entries.{field, headerLayout, headerChecks, markerOf, running, clean, headerSays}
 use Rattle.rules.specs.Zone.{Zone, headerOf, headerHuge, shapeOf, Store, stored}
@@ -58,8 +58,8 @@ module _ (z : Zone) where
   get-begun : (cpu o : ℕ) → Falls (shapeOf z) (mostGet (shapeOf z)) (beginGet z cpu o .answer)
   unfolding beginGet stepRange takingIn left takingLeft ownRank searchSteps
   get-begun cpu o = guarded-elim (λ p. Falls (shapeOf z) (mostGet (shapeOf z)) (p .answer)) _ _ (tt, (tt, (tt, (tt, (tt, (tt, tt)))))) (λ n.
-      let l : cpu < shapeOf z .cpus = leb-false _ _ (n .1 .1 .1 .1 .0) in
-      ((l, tt), omega arith))
+      let e : leb (shapeOf z .cpus) cpu ≡ false = search in
+      ((leb-false _ _ e, tt), omega (arith, leb-false (shapeOf z .cpus) cpu e)))
 
   block-in : (k : Order) (f : Frame) → f .0 < shapeOf z .huge * 512 → Passes (blockIn (shapeOf z) (blockAt k f))
   block-in Order.Zero f h = (h, tt)
@@ -68,8 +68,9 @@ module _ (z : Zone) where
   put-begun : (cpu : ℕ) (f : Frame) (o : ℕ) → Falls (shapeOf z) mostPut (beginPut z cpu f o .answer)
   unfolding beginPut stepRange givingIn left givingLeft
   put-begun cpu f o = guarded-elim (λ p. Falls (shapeOf z) mostPut (p .answer)) _ _ (tt, (tt, (tt, (tt, (tt, (tt, (tt, (tt, tt)))))))) (λ n.
-      let l : cpu < shapeOf z .cpus = leb-false _ _ (n .1 .1 .1 .1 .0) in
-      ((l, block-in (orderOf o) f (leb-false _ _ (n .1 .1 .1 .1 .1 .1 .0))), omega arith))
+      let e : leb (shapeOf z .cpus) cpu ≡ false = search in
+      let h : leb (shapeOf z .huge * childFrames) (f .0) ≡ false = search in
+      ((leb-false _ _ e, block-in (orderOf o) f (leb-false _ _ h)), omega arith))
 
 -- ---- a sequence of steps
 

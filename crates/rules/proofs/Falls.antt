@@ -37,9 +37,10 @@ near-later : (x i j : ℕ) → i < j → j / 32 ≡ i / 32 → x + (32 - j % 32)
 near-later x i j h e = omega arith
 
 module _ (g : Shape) (k+ : 0 < perTree g) (n+ : 0 < g .huge) (cpu : ℕ) (l : cpu < g .cpus) where
-  steps-is : searchSteps g ≡ 10 * perTree g + 10
+  -- a place's steps are fewer than its share of the bound
+  steps-fit : 10 * perTree g + 9 < searchSteps g
   unfolding searchSteps
-  steps-is = refl
+  steps-fit = omega arith
 
   -- the stage s is in range, and leaves fewer than m steps
   abbrev Reached : ℕ → Taking → Type 0
@@ -49,7 +50,7 @@ module _ (g : Shape) (k+ : 0 < perTree g) (n+ : 0 < g .huge) (cpu : ℕ) (l : cp
   module _ (o : Order) where
     reach-try : (p : Pass) (r x : ℕ) → Passes (passIn g p) → passRank g p < r → Reached (searchSteps g * r + x) (try g cpu o p)
     unfolding takingIn takingLeft
-    reach-try p r x h k = (h, later (searchSteps g) r (passRank g p) _ x k (omega (arith, steps-is)))
+    reach-try p r x h k = (h, later (searchSteps g) r (passRank g p) _ x k (omega (arith, steps-fit)))
 
     reach-near : (i : ℕ) (b : Tree) (r x : ℕ) → b .0 < treesOf g → i ≢ b .0 → pred (g .cpus) + 3 * treesOf g < r
         → (i / 32 ≡ b .0 / 32 → pred (g .cpus) + 3 * treesOf g + (32 - i % 32) < r) → Reached (searchSteps g * r + x) (nearFrom g cpu o i b)
@@ -63,7 +64,7 @@ module _ (g : Shape) (k+ : 0 < perTree g) (n+ : 0 < g .huge) (cpu : ℕ) (l : cp
     reach-steal : (j r x : ℕ) → j ≢ cpu → (j < g .cpus → g .cpus - suc j < r) → 1 < searchSteps g * r + x → Reached (searchSteps g * r + x) (stealFrom g cpu o j)
     unfolding takingIn takingLeft stealRank
     reach-steal j r x a s m = pick-elim (Reached (searchSteps g * r + x)) (ltb j (g .cpus))
-        (λ b. let y : j < g .cpus = ltb-true _ _ b in ((y, (a, tt)), later (searchSteps g) r (g .cpus - suc j) _ x (s y) (omega (arith, steps-is))))
+        (λ b. let y : j < g .cpus = ltb-true _ _ b in ((y, (a, tt)), later (searchSteps g) r (g .cpus - suc j) _ x (s y) (omega (arith, steps-fit))))
         (λ b. (tt, m))
 
     reach-all : (p : Tree → Pass) (i r x : ℕ) (s : Taking) → (i < treesOf g → Reached (searchSteps g * r + x) (try g cpu o (p (tree i)))) → Reached (searchSteps g * r + x) s → Reached (searchSteps g * r + x) (tryAt g cpu o p i s)
@@ -74,20 +75,20 @@ module _ (g : Shape) (k+ : 0 < perTree g) (n+ : 0 < g .huge) (cpu : ℕ) (l : cp
     after-pass (Pass.Near t b) x m h =
         let k = skip-is (b .0) (suc (t .0)) in
         reach-near _ b _ x (h .1 .0) (k .0) (omega arith) (λ e. near-later (pred (g .cpus) + 3 * treesOf g) (t .0) _ (omega (arith, k .1)) (e ∙ sym (h .1 .1 .1 .0)))
-    after-pass (Pass.Partial t) x m h = reach-all Pass.Partial (suc (t .0)) _ x _ (λ b. reach-try (Pass.Partial (tree (suc (t .0)))) _ x (b, tt) (omega arith))
+    after-pass (Pass.Partial t) x m h = reach-all Pass.Partial _ _ x _ (λ b. reach-try (Pass.Partial _) _ x (b, tt) (omega arith))
         (reach-try (Pass.Free (tree 0)) _ x (some-tree g k+ n+, tt) (omega (arith, h .0)))
-    after-pass (Pass.Free t) x m h = reach-all Pass.Free (suc (t .0)) _ x _ (λ b. reach-try (Pass.Free (tree (suc (t .0)))) _ x (b, tt) (omega arith))
+    after-pass (Pass.Free t) x m h = reach-all Pass.Free _ _ x _ (λ b. reach-try (Pass.Free _) _ x (b, tt) (omega arith))
         (reach-try (Pass.Any (tree 0)) _ x (some-tree g k+ n+, tt) (omega (arith, h .0)))
-    after-pass (Pass.Any t) x m h = reach-all Pass.Any (suc (t .0)) _ x _ (λ b. reach-try (Pass.Any (tree (suc (t .0)))) _ x (b, tt) (omega arith))
+    after-pass (Pass.Any t) x m h = reach-all Pass.Any _ _ x _ (λ b. reach-try (Pass.Any _) _ x (b, tt) (omega arith))
         (let k = skip-is cpu 0 in reach-steal _ _ x (k .0) (λ e. omega (arith, h .0, k)) (omega arith))
 
     pub after-steal : (j x : ℕ) → 2 ≤ x → Reached (searchSteps g * stealRank g j + x) (afterSteal g cpu o j)
     unfolding afterSteal stealRank
-    after-steal j x m = let k = skip-is cpu (suc j) in reach-steal _ _ x (k .0) (λ e. omega (arith, k)) (omega arith)
+    after-steal j x m = reach-steal _ _ x (skip-is cpu _ .0) (λ e. omega (arith, skip-is cpu (suc j))) (omega arith)
 
     pub after-place : (p : Place) (x : ℕ) → 2 ≤ x → Passes (placeIn g cpu p) → Reached (searchSteps g * placeRank g p + x) (afterPlace g cpu o p)
     unfolding afterPlace placeIn foundIn placeRank ownRank
-    after-place (Place.Own t) x m h = let k = skip-is (t .0) (t .0 / 32 * 32) in reach-near _ t _ x (h .0) (k .0) (omega arith) (λ e. omega arith)
+    after-place (Place.Own t) x m h = reach-near _ t _ x (h .0) (skip-is _ _ .0) (omega arith) (λ e. omega arith)
     after-place (Place.Found (Found.Pass p)) x m h = after-pass p x m h
     after-place (Place.Found (Found.Steal j t)) x m h = after-steal j x m
 

@@ -15,6 +15,7 @@ use Rattle.rules.specs.Conversions.{tree}
 use Rattle.rules.specs.Entries.{field, cpuLayout, treeLayout, holdsChecks, treeSays, cpuSays}
 use Rattle.rules.specs.Lower.{Change, keep, become, Lowered, byChild}
 use Rattle.rules.specs.Zone.{Zone, Store, nothing, header, word, child, tree as treeStore, cpu, treeEntryAt, cpuEntryAt, childPart, wordPart}
+use Rattle.rules.proofs.Layouts.{CpuView, brokenCpu, absent, holds, cpu-view}
 use Rattle.rules.specs.Plan.{Mark, plain, Plan, refuse, Refusal, guarded, Made, look, Tally, Step, noEntry, cpuEntry, treeEntry, childEntry, wordEntry, byChange, byCpu, byTree, made, laidOut, toCpu, toTree, toChild, toWord, carried, lowered, byTook, byBit, byGave, onTook, onBit, onGave}
 
 -- ---- refusals: each answer of the list, and what is known past it
@@ -61,25 +62,16 @@ change-elim Q (become v) x y = y v refl
 
 -- what a well-formed entry says is in range
 pub holds-in : (g : Shape) (x : ℕ) (t : Tree) (s k : ℕ) → cpuSays g x ≡ CpuEntry.Holds t s k → Passes (holdsChecks g t s k)
-unfolding cpuSays
-holds-in g x t s k = pick-elim Q (eqb x 0) (λ b e. let z : _≡_ {A = ℕ} 0 1 = cc in absurd (omega arith))
-    (λ b. pick-elim Q (passes l) (λ i. ok (all-passed l i)) (λ i e. let z : _≡_ {A = ℕ} 0 1 = cc in absurd (omega arith)))
+holds-in g x t s k = go (cpuSays g x) (cpu-view g x)
   where
-    f : ℕ → ℕ
-    f i = field (cpuLayout (g .format)) i x
-
-    l : List Check
-    l = f 0 is 1 ∷ f 4 is 0 ∷ holdsChecks g (tree (f 1)) (f 2) (f 3)
-
-    Q : CpuEntry → Type 0
-    Q e = e ≡ CpuEntry.Holds t s k → Passes (holdsChecks g t s k)
-
-    ok : Passes l → CpuEntry.Holds (tree (f 1)) (f 2) (f 3) ≡ CpuEntry.Holds t s k → Passes (holdsChecks g t s k)
-    ok h e =
-        let a : tree (f 1) ≡ t = cc in
-        let b : f 2 ≡ s = cc in
-        let c : f 3 ≡ k = cc in
-        rw (← a, ← b, ← c) (h .1 .1)
+    go : (c : CpuEntry) → CpuView g x c → c ≡ CpuEntry.Holds t s k → Passes (holdsChecks g t s k)
+    go CpuEntry.Damaged (brokenCpu n) e = let z : _≡_ {A = ℕ} 0 1 = cc in absurd (omega arith)
+    go CpuEntry.Absent (absent n) e = let z : _≡_ {A = ℕ} 0 1 = cc in absurd (omega arith)
+    go (CpuEntry.Holds u a b) (holds n m p) e =
+        let q : u ≡ t = cc in
+        let v : a ≡ s = cc in
+        let w : b ≡ k = cc in
+        rw (← q, ← v, ← w) p
 
 pub count-in : (g : Shape) (t : Tree) (x r k : ℕ) → treeSays g t x ≡ TreeEntry.Counts r k → k ≤ capacity g (t .0)
 unfolding treeSays

@@ -30,7 +30,7 @@ isRunning (Header.Clean n) = false
 abbrev pub headerChecks : Zone → List Check
 headerChecks z = length (z .header) is 1 ∷ []
 
--- the lengths that a shape asks for
+-- the lengths that a shape asks for (D30)
 abbrev pub lengthChecks : Shape → Zone → List Check
 lengthChecks g z = length (z .words) is childWords * g .huge ∷ length (z .children) is g .huge ∷ length (z .trees) is treesOf g ∷ 0 below g .cpus ∷ g .cpus below suc mostCpus ∷ []
 

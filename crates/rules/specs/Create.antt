@@ -15,7 +15,7 @@ use Rattle.rules.specs.Checks.{unless, noHeader, badBuffers}
 use Rattle.rules.specs.Ranges.{createRange}
 use Rattle.rules.specs.Types.{CpuEntry, Creating, Record, Answer}
 
--- create, open and close are answered Done with frame 0
+-- create, open and close are answered Done with frame 0 (D31)
 abbrev pub done : Answer
 done = Answer.Done (frame 0)
 
@@ -45,6 +45,7 @@ createAct g (Record.Put cpu s) = refuse Answer.BadRecord
 createAct g (Record.Create s) = createStage g s
 createAct g (Record.Open s) = refuse Answer.BadRecord
 
+-- n is given beside the record (D22)
 unfoldable pub createStep : ℕ → Zone → Record → Plan
 createStep n z r = guarded (notCreated n z ++ (unless (createRange (shaped n z) r) Answer.BadRecord ∷ [])) (createAct (shaped n z) r)
 

@@ -45,7 +45,7 @@ headerSays x =
 unfoldable pub headerWord : ℕ → ℕ → ℕ
 headerWord marker n = join headerLayout (identifier ∷ 1 ∷ marker ∷ n ∷ 0 ∷ [])
 
--- ---- tree: reserved r (1), count 0..capacity (15)
+-- ---- tree: reserved r (1), count 0..capacity (15) (D20)
 abbrev pub treeLayout : List ℕ
 treeLayout = 1 ∷ 15 ∷ []
 
@@ -55,7 +55,7 @@ treeSays g t x = pick (leb (field treeLayout 1 x) (capacity g (t .0))) (TreeEntr
 unfoldable pub treeWord : ℕ → ℕ → ℕ
 treeWord r k = join treeLayout (r ∷ k ∷ [])
 
--- ---- CPU: present (1), tree (11), start child (5), count 0..capacity (15), zero (32); an absent entry is the zero word
+-- ---- CPU: present (1), tree (11), start child (5), count 0..capacity (15), zero (32); an absent entry is the zero word (D19)
 abbrev pub cpuLayout : Format → List ℕ
 cpuLayout m = 1 ∷ m .treeBits ∷ m .startBits ∷ m .countBits ∷ (63 - (m .treeBits + m .startBits + m .countBits)) ∷ []
 

@@ -14,7 +14,7 @@ module _ (g : Shape) (cpu : ℕ) where
   abbrev pub put : Giving → Answer
   put s = Answer.UnderWay (Record.Put cpu s)
 
-  -- first the clearing store: order 0 clears the bit, order 9 changes a set into a clear, count 512
+  -- first the clearing store: order 0 clears the bit, order 9 changes a set into a clear, count 512 (D10, D11, D13)
   unfoldable pub clear : Block → Step
   clear (Block.Base f) =
       let b : Block = Block.Base f in
@@ -25,11 +25,11 @@ module _ (g : Shape) (cpu : ℕ) where
 
   unfoldable pub give : Giving → Step
   give (Giving.Clear b) = clear b
-  -- for order 0 the child's count then rises by 1
+  -- for order 0 the child's count then rises by 1 (D12)
   give (Giving.Raise f) =
       let b : Block = Block.Base f in
       childEntry (treeOfBlock g b) (childOfBlock g b) (λ x. onGave (giveCount (size Order.Zero) x) (put (Giving.ToEntry b)) plain)
-  -- next, if the own entry holds that tree, its count rises by s and the put is answered; if not, nothing is stored
+  -- next, if the own entry holds that tree, its count rises by s and the put is answered; if not, nothing is stored (D33)
   give (Giving.ToEntry b) = ifOwnHolds g cpu (treeOfBlock g b) (λ s k. store (CpuEntry.Holds (treeOfBlock g b) s (k + sizeOf b)) (Answer.Done (firstOf b))) (look (put (Giving.ToTree b)))
   -- and one more step adds s to the tree's count and answers; the reserved flag stays
   give (Giving.ToTree b) = treeEntry (treeOfBlock g b) (λ r k. store (tally r (k + sizeOf b)) (Answer.Done (firstOf b)))

@@ -22,7 +22,7 @@ pub record Lowered (A : Type 0) : Type 0 where
   pub said : A
   pub change : Change ℕ
 
--- ---- child: a (1), zero (5), count 0..512 (10); with a set the count is 0
+-- ---- child: a (1), zero (5), count 0..512 (10); with a set the count is 0 (D20)
 abbrev pub childLayout : List ℕ
 childLayout = 1 ∷ 5 ∷ 10 ∷ []
 

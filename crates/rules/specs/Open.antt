@@ -71,7 +71,7 @@ module _ (g : Shape) (z : Zone) where
 abbrev pub opening : Opening → Answer
 opening s = Answer.UnderWay (Record.Open s)
 
--- 12 before any store: a malformed child and, when the marker was running, a child with a set over a field that isn't all zero
+-- 12 before any store: a malformed child and, when the marker was running, a child with a set over a field that isn't all zero (D26)
 unfoldable pub openSound : Zone → Bool
 openSound z = childrenFormed (shapeOf z) z && pick (isRunning (headerOf z)) (flagsEmpty (shapeOf z) z) true
 
@@ -79,7 +79,7 @@ unfoldable pub openZone : Zone → Plan
 openZone z = guarded (noHeader z ∷ notAZone z ∷ badBuffers (shapeOf z) z ∷ on (not (openSound z)) Answer.Damaged ∷ [])
     (says (Store.header (headerWord running (shapeOf z .huge))) (opening (pick (isRunning (headerOf z)) (Opening.Children (huge 0)) (Opening.Trees (tree 0)))))
 
--- a later step refuses 12 for a malformed child that it reads
+-- a later step refuses 12 for a malformed child that it reads (D23)
 unfoldable pub openingSound : Shape → Zone → Opening → Bool
 openingSound g z (Opening.Children h) = wellFormed (childAt g z h)
 openingSound g z (Opening.Trees t) = every (childrenOf g (t .0)) (λ c. wellFormed (getD (childPart g z t) c 0))
@@ -112,7 +112,7 @@ openStep z r = guarded (notOpen z ++ (unless (openRange (shapeOf z) r) Answer.Ba
 abbrev pub openSteps : Shape → ℕ → ℕ
 openSteps g children = 1 + children + treesOf g + g .cpus
 
--- ---- close: one step
+-- ---- close: one step; every 12 before a 13 (D24), operations under way or not (D25)
 
 unfoldable pub closeSound : Zone → Bool
 closeSound z = let g : Shape = shapeOf z in childrenFormed g z && (flagsEmpty g z && (treesFormed g z && cpusFormed g z))

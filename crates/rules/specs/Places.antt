@@ -62,11 +62,11 @@ module _ (g : Shape) (cpu : ℕ) (o : Order) where
   abbrev pub tryAt : (Tree → Pass) → ℕ → Taking → Taking
   tryAt p i after = pick (ltb i (treesOf g)) (try (p (tree i))) after
 
-  -- near: the trees from i on of the aligned block that holds b, but b
+  -- near: the trees from i on of the aligned block that holds b, but b; with none left the partial pass begins (D5, D8)
   abbrev pub nearFrom : ℕ → Tree → Taking
   nearFrom i b = pick (ltb i (treesOf g) && eqb (i / nearTrees) (b .0 / nearTrees)) (try (Pass.Near (tree i) b)) (try (Pass.Partial (tree 0)))
 
-  -- steal: the CPUs from j on, but the own; after the last the answer is No room
+  -- steal: the CPUs from j on, but the own; after the last the answer is No room (D7, D8)
   abbrev pub stealFrom : ℕ → Taking
   stealFrom j = pick (ltb j (g .cpus)) (Taking.Steal o j) Taking.NoRoom
 
@@ -79,6 +79,7 @@ module _ (g : Shape) (cpu : ℕ) (o : Order) where
   unfoldable pub afterSteal : ℕ → Taking
   afterSteal j = stealFrom (skip cpu (suc j))
 
+  -- the near pass is of the tree that the get started with (D6)
   unfoldable pub afterPlace : Place → Taking
   afterPlace (Place.Own t) = nearFrom (skip (t .0) (t .0 / nearTrees * nearTrees)) t
   afterPlace (Place.Found (Found.Pass p)) = afterPass p

@@ -94,7 +94,7 @@ laidOut g e = byCpu e false true (λ t s k. passes (holdsChecks g t s k))
 abbrev pub made : {A : Type 0} → Store → Made A → Plan
 made s m = record { store = s; answer = m .answer; mark = m .mark }
 
--- an entry read, or one to be stored, that breaks its layout: 12
+-- an entry read, or one to be stored, that breaks its layout: 12 (D9, D21, D39)
 unfoldable pub toCpu : Shape → ℕ → Made CpuEntry → Plan
 toCpu g j m = byChange (m .change) (made nothing m) (λ e. pick (laidOut g e) (made (cpu j e) m) (refuse Answer.Damaged))
 

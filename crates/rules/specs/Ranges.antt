@@ -1,4 +1,4 @@
--- Which numbers a record may hold: outside of them, and at a finished or another operation's record, a step answers 11.
+-- Which numbers a record may hold: outside of them, and at a finished or another operation's record, a step answers 11 (D1, D27 to D29).
 use mathlib.Core.List.{List, [], _∷_, _++_}
 use Prim.Native.Nat.{ℕ, zero, suc, _+_, _*_, _/_}
 use Rattle.laws.specs.Tests.{Check, _below_, _is_, _isnt_}

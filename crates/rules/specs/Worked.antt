@@ -2,15 +2,18 @@
 use mathlib.Core.Path.{_≡_}
 use mathlib.Core.Bool.{Bool, true, false}
 use mathlib.Core.List.{List, [], _∷_}
-use Prim.Native.Nat.{ℕ, _+_, _*_, _^_}
-use lib.ListN.{getD, replicate}
-use Rattle.rules.specs.Numbers.{Shape, format1}
+use Prim.Native.Nat.{ℕ, _+_, _-_, _*_, _^_}
+use lib.ListN.{length, getD, replicate}
+use Rattle.rules.specs.Numbers.{childWords, wordBits, Shape, format1}
 use Rattle.rules.specs.Conversions.{frame, tree}
 use Rattle.rules.specs.Answers.{number, frameOf}
-use Rattle.rules.specs.Entries.{headerWord, running, clean, cpuWord}
-use Rattle.rules.specs.Zone.{Zone, shapeOf}
+use Rattle.rules.specs.Entries.{headerWord, running, clean, treeWord, cpuWord}
+use Rattle.rules.specs.Lower.{countWord}
+use Rattle.rules.specs.Zone.{Zone, shaped, shapeOf}
 use Rattle.rules.specs.Places.{classOf, allocated, partial, free}
 use Rattle.rules.specs.Begin.{beginGet, beginPut}
+use Rattle.rules.specs.Create.{createSteps}
+use Rattle.rules.specs.Fresh.{fresh, Fitting, creates}
 use Rattle.rules.specs.Step.{step, Ran, follow, mostGet}
 use Rattle.rules.specs.Types.{CpuEntry, Answer}
 
@@ -42,9 +45,6 @@ session (q ∷ l) z =
     let s : Session = session l (e .zone) in
     record { lines = line (number (e .answer)) (frameOf (e .answer)) (e .steps) ∷ s .lines; zone = s .zone }
 
-unfoldable pub test : Zone
-test = record { header = headerWord running 65 ∷ []; words = replicate 520 0; children = replicate 65 512; trees = 16384 ∷ 16384 ∷ 512 ∷ []; cpus = 0 ∷ 0 ∷ [] }
-
 pub record Words : Type 0 where
   pub running65 : headerWord running 65 ≡ 0x4C46140082000000
   pub clean65 : headerWord clean 65 ≡ 0x4C46180082000000
@@ -59,3 +59,25 @@ pub record Table (z : Zone) : Type 0 where
   pub low : classOf 2048 ≡ partial
   pub high : classOf 14336 ≡ partial
   pub above : classOf 14337 ≡ free
+
+-- one huge frame and one CPU: fresh, and with every frame taken and the tree held by the CPU
+abbrev pub small : Shape
+small = record { format = format1; huge = 1; cpus = 1 }
+
+unfoldable pub full : Zone
+full = record {
+  header = headerWord running 1 ∷ [];
+  words = replicate childWords (2 ^ wordBits - 1);
+  children = countWord 0 ∷ [];
+  trees = treeWord 1 0 ∷ [];
+  cpus = cpuWord format1 (CpuEntry.Holds (tree 0) 0 0) ∷ [];
+}
+
+pub record Worked : Type 0 where
+  pub words : Words
+  -- from the zone that create reaches for 65 huge frames and two CPUs, from tables that held anything
+  pub table : (z : Zone) → Fitting 65 z → length (z .cpus) ≡ 2 → Table (creates 65 z (createSteps (shaped 65 z)) .zone)
+  -- No room in 9 steps
+  pub noRoom : session (g 0 0 ∷ []) full .lines ≡ line 2 0 9 ∷ []
+  -- order 9 over one taken frame
+  pub taken : session (g 0 0 ∷ g 0 9 ∷ []) (fresh small) .lines ≡ line 0 0 8 ∷ line 2 0 9 ∷ []

@@ -1,0 +1,1 @@
+// No function: a long session, computed.
