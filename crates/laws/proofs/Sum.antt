@@ -4,14 +4,15 @@ use mathlib.Core.Logic.{_≢_}
 use mathlib.Core.Bool.{Bool, true, false, _&&_}
 use mathlib.Core.List.{List, [], _∷_, _++_}
 use Prim.Native.Nat.{ℕ, zero, suc, _+_, _-_, _*_, _≤_, _<_, zero-le, suc-le-suc}
-use native.Mathlib.Nat.{add-zero, add-suc, zero-mul, suc-mul, not-suc-le-zero, le-of-suc-le-suc}
+use native.Mathlib.Nat.{add-zero, add-suc, zero-mul, suc-mul, not-suc-le-zero, le-of-suc-le-suc, mul-le-mul-right}
 use native.Mathlib.Omega.{arith}
 use native.Mathlib.Decide.{ℕ-discrete, decLt}
 use lib.Dec.{eqb, leb, ltb}
 use lib.ListN.{length, getD, set}
+use lib.Seq.{getD-set-same, getD-set-other}
 use borrow.Author.Tests.{eq-eqb, ne-eqb, leb-true, leb-false, ltb-true, ltb-false, le-leb, lt-leb, lt-ltb, le-ltb}
 use Rattle.laws.specs.Tests.{pick}
-use Rattle.laws.specs.Sum.{sumTo, run, upd, sumL}
+use Rattle.laws.specs.Sum.{sumTo, run, at, upd, sumL}
 use Rattle.laws.proofs.Tests.{pick-elim, pick-yes, pick-no, and-both, both-and}
 
 -- ---- the indicator of a run
@@ -51,6 +52,26 @@ run-le s b j = elim (ran s b j) [
   | outside h e ↦ omega arith
 ]
 
+-- a run and a number, both moved by m
+pub run-shift : (m s b j : ℕ) → run s (m + b) (m + j) ≡ run s b j
+run-shift m s b j = elim (ran s b j) [
+  | inside h k e ↦ run-in s (m + b) (m + j) (omega arith) (omega arith) ∙ sym e
+  | outside h e ↦ elim (ran s (m + b) (m + j)) [
+    | inside n o q ↦ absurd (h (omega arith) (omega arith))
+    | outside n q ↦ q ∙ sym e
+  ]
+]
+
+-- in groups of d: a run of group p, and a number of group q
+pub run-apart : (d s p q b j : ℕ) → b + s ≤ d → j < d → p ≢ q → run s (p * d + b) (q * d + j) ≡ 0
+run-apart d s p q b j h l n = elim (ran s (p * d + b) (q * d + j)) [
+  | inside k m e ↦ elim (decLt p q) [
+    | yes a ↦ absurd (omega (arith, mul-le-mul-right d a))
+    | no a ↦ let a : q < p = omega arith in absurd (omega (arith, mul-le-mul-right d a))
+  ]
+  | outside k e ↦ e
+]
+
 -- a run of one: the same number, or another
 pub data Same (i j : ℕ) : Type 0 where
   same : i ≡ j → run 1 i j ≡ 1 → Same i j
@@ -60,6 +81,32 @@ pub same? : (i j : ℕ) → Same i j
 same? i j = elim (ran 1 i j) [
   | inside h k e ↦ same (omega arith) e
   | outside h e ↦ other (λ q. h (omega arith) (omega arith)) e
+]
+
+-- ---- an amount at one place
+pub at-same : (i d : ℕ) → at i d i ≡ d
+unfolding at
+at-same i d = pick-yes (eqb i i) d 0 (eq-eqb i i refl)
+
+pub at-other : (i d j : ℕ) → i ≢ j → at i d j ≡ 0
+unfolding at
+at-other i d j h = pick-no (eqb i j) d 0 (ne-eqb i j h)
+
+-- what a proof by cases goes by
+pub data Placed (i d j : ℕ) : Type 0 where
+  here : i ≡ j → at i d j ≡ d → Placed i d j
+  elsewhere : i ≢ j → at i d j ≡ 0 → Placed i d j
+
+pub placed : (i d j : ℕ) → Placed i d j
+placed i d j = elim (ℕ-discrete i j) [
+  | yes e ↦ here e (rw (← e) (at-same i d))
+  | no h ↦ elsewhere h (at-other i d j h)
+]
+
+pub at-add : (i a b j : ℕ) → at i (a + b) j ≡ at i a j + at i b j
+at-add i a b j = elim (ℕ-discrete i j) [
+  | yes e ↦ rw (← e, at-same i (a + b), at-same i a, at-same i b)
+  | no h ↦ rw (at-other i (a + b) j h, at-other i a j h, at-other i b j h)
 ]
 
 -- ---- a table changed at one place
@@ -74,6 +121,12 @@ module _ {ℓ} {A : Type ℓ} where
   pub upd-other : (f : ℕ → A) (i : ℕ) (v : A) (j : ℕ) → i ≢ j → upd f i v j ≡ f j
   unfolding upd
   upd-other f i v j h = pick-no (eqb i j) v (f j) (ne-eqb i j h)
+
+  pub upd-twice : (f : ℕ → A) (i : ℕ) (v w : A) → upd (upd f i v) i w ≡ upd f i w
+  upd-twice f i v w = fun-ext (λ j. elim (ℕ-discrete i j) [
+    | yes e ↦ upd-at (upd f i v) i w j e ∙ sym (upd-at f i w j e)
+    | no m ↦ upd-other (upd f i v) i w j m ∙ upd-other f i v j m ∙ sym (upd-other f i w j m)
+  ])
 
   -- what holds of every entry, and of a new one
   pub upd-all {κ} : (Q : A → Type κ) (f : ℕ → A) (i : ℕ) (v : A) (n : ℕ) → ((j : ℕ) → j < n → Q (f j)) → Q v → (j : ℕ) → j < n → Q (upd f i v j)
@@ -122,6 +175,19 @@ sum-upd con n p f old new l e =
     let h = sum-point n p (λ q. con (f q)) (λ q. con (upd f p new q)) l (λ i k r. ap con (upd-other f p new i r)) in
     rw (upd-same f p new, e) at h
 
+-- what an entry contributes, after one was stored: at its place, and at any other
+pub set-at : (con : ℕ → ℕ) (l : List ℕ) (i v d : ℕ) → i < length l → (x : ℕ) → con (getD (set l i v) x d) + at i (con (getD l i d)) x ≡ con (getD l x d) + at i (con v) x
+set-at con l i v d h x = elim (ℕ-discrete i x) [
+  | yes e ↦ rw (← e, getD-set-same l i v d h, at-same i (con v), at-same i (con (getD l i d))) (omega arith)
+  | no q ↦ rw (getD-set-other l i x v d (λ e. q (sym e)), at-other i (con v) x q, at-other i (con (getD l i d)) x q) refl
+]
+
+-- the same over a list's entries, after one was stored
+pub sum-set : (con : ℕ → ℕ) (n p : ℕ) (l : List ℕ) (v d : ℕ) → p < n → p < length l → sumTo n (λ q. con (getD (set l p v) q d)) + con (getD l p d) ≡ sumTo n (λ q. con (getD l q d)) + con v
+sum-set con n p l v d h k =
+    let e = sum-point n p (λ q. con (getD l q d)) (λ q. con (getD (set l p v) q d)) h (λ i m r. ap con (getD-set-other l p i v d (λ q. r (sym q)))) in
+    rw (getD-set-same l p v d k) at e
+
 pub sum-zero : (n : ℕ) (g : ℕ → ℕ) → ((i : ℕ) → i < n → g i ≡ 0) → sumTo n g ≡ 0
 unfolding sumTo
 sum-zero zero g e = refl
@@ -134,6 +200,9 @@ sum-const (suc n) k g e = omega (arith, sum-const n k g (λ i l. e i (omega arit
 
 pub sum-single : (n j : ℕ) (h : ℕ → ℕ) → j < n → ((i : ℕ) → i < n → j ≢ i → h i ≡ 0) → sumTo n h ≡ h j
 sum-single n j h l e = omega (arith, sum-point n j (λ i. 0) h l e, sum-zero n (λ i. 0) (λ i k. refl))
+
+pub sum-at : (n i d : ℕ) → i < n → sumTo n (at i d) ≡ d
+sum-at n i d h = sum-single n i (at i d) h (λ j l r. at-other i d j r) ∙ at-same i d
 
 -- one part is at most the sum, and so are two
 pub sum-part : (n : ℕ) (g : ℕ → ℕ) (i : ℕ) → i < n → g i ≤ sumTo n g
@@ -230,3 +299,10 @@ module _ {ℓ} {A : Type ℓ} (g : A → ℕ) where
   sumL-two (x ∷ l) i zero d h k = absurd (not-suc-le-zero h)
   sumL-two (x ∷ l) zero (suc j) d h k = omega (arith, sumL-part l j d (le-of-suc-le-suc k))
   sumL-two (x ∷ l) (suc i) (suc j) d h k = omega (arith, sumL-two l i j d (le-of-suc-le-suc h) (le-of-suc-le-suc k))
+
+-- a function of the entries, after one was changed
+pub map-upd {ℓ κ} : {A : Type ℓ} {B : Type κ} (g : A → B) (f : ℕ → A) (i : ℕ) (v : A) → (λ j. g (upd f i v j)) ≡ upd (λ j. g (f j)) i (g v)
+map-upd g f i v = fun-ext (λ j. elim (ℕ-discrete i j) [
+  | yes e ↦ ap g (upd-at f i v j e) ∙ sym (upd-at (λ j. g (f j)) i (g v) j e)
+  | no h ↦ ap g (upd-other f i v j h) ∙ sym (upd-other (λ j. g (f j)) i (g v) j h)
+])

@@ -14,7 +14,7 @@ use Rattle.laws.specs.Tests.{pick}
 use Rattle.laws.specs.Sum.{sumTo, run}
 use Rattle.laws.specs.Words.{bit, zeros, ones, bits, lowest}
 use Rattle.laws.proofs.Tests.{pick-elim, pick-yes, pick-no}
-use Rattle.laws.proofs.Sum.{Ran, ran, inside, outside, run-in, run-below, run-above, run-le, sum-add, sum-run, sum-bound, sum-const, sum-full}
+use Rattle.laws.proofs.Sum.{Ran, ran, inside, outside, run-in, run-below, run-above, run-le, run-shift, sum-add, sum-run, sum-bound, sum-const, sum-full}
 
 -- ---- one digit
 
@@ -28,13 +28,7 @@ pub bit-le : (b w : ℕ) → bit b w ≤ 1
 bit-le b w = omega arith
 
 run-suc : (s b j : ℕ) → run s (suc b) (suc j) ≡ run s b j
-run-suc s b j = elim (ran s b j) [
-  | inside h k e ↦ run-in s (suc b) (suc j) (omega arith) (omega arith) ∙ sym e
-  | outside h e ↦ elim (ran s (suc b) (suc j)) [
-    | inside m n q ↦ absurd (h (omega arith) (omega arith))
-    | outside m q ↦ q ∙ sym e
-  ]
-]
+run-suc s b j = rw (← (one-add b), ← (one-add j)) (run-shift 1 s b j)
 
 run-more : (s j : ℕ) → run (suc s) 0 (suc j) ≡ run s 0 j
 run-more s j = elim (ran s 0 j) [

@@ -14,6 +14,10 @@ sumTo (suc n) g = sumTo n g + g n
 unfoldable pub run : ℕ → ℕ → ℕ → ℕ
 run s b j = pick (leb b j && ltb j (b + s)) 1 0
 
+-- d at i, 0 elsewhere
+unfoldable pub at : ℕ → ℕ → ℕ → ℕ
+at i d j = pick (eqb i j) d 0
+
 module _ {ℓ} {A : Type ℓ} where
   -- f with v at i
   unfoldable pub upd : (ℕ → A) → ℕ → A → ℕ → A

@@ -37,14 +37,14 @@ set-only (x ∷ []) v e = refl
 set-only (x ∷ (y ∷ l)) v e = absurd (omega arith)
 
 -- n entries, and those before entry i are f's
-record Filled (f : ℕ → ℕ) (n : ℕ) (l : List ℕ) (i : ℕ) : Type 0 where
+pub record Filled (f : ℕ → ℕ) (n : ℕ) (l : List ℕ) (i : ℕ) : Type 0 where
   pub size : length l ≡ n
   pub same : (j : ℕ) → j < i → getD l j 0 ≡ f j
 
-not-filled : (f : ℕ → ℕ) (n : ℕ) (l : List ℕ) → length l ≡ n → Filled f n l 0
+pub not-filled : (f : ℕ → ℕ) (n : ℕ) (l : List ℕ) → length l ≡ n → Filled f n l 0
 not-filled f n l e = record { size = e; same = λ j h. absurd (omega arith) }
 
-one-more : (f : ℕ → ℕ) (n : ℕ) (l : List ℕ) (i : ℕ) → i < n → Filled f n l i → Filled f n (set l i (f i)) (suc i)
+pub one-more : (f : ℕ → ℕ) (n : ℕ) (l : List ℕ) (i : ℕ) → i < n → Filled f n l i → Filled f n (set l i (f i)) (suc i)
 one-more f n l i h k = record { size = length-set l i (f i) ∙ k .size; same = all-set (λ j x. x ≡ f j) l i (f i) (suc i) (omega (arith, k .size)) refl (λ j m q. k .same j (omega arith)) }
 
 length-listed : (n : ℕ) (f : ℕ → ℕ) → length (listed n f) ≡ n
@@ -63,10 +63,13 @@ unfolding listed
 listed-same zero v = refl
 listed-same (suc n) v = ap (λ l. v ∷ l) (listed-same n v)
 
-filled : (f : ℕ → ℕ) (n : ℕ) (l : List ℕ) → Filled f n l n → l ≡ listed n f
+pub filled : (f : ℕ → ℕ) (n : ℕ) (l : List ℕ) → Filled f n l n → l ≡ listed n f
 filled f n l h = ext-getD 0 l (listed n f) (h .size ∙ sym (length-listed n f)) (λ i m. let k : i < n = omega (arith, h .size) in h .same i k ∙ sym (getD-listed n f i k))
 
-filled-same : (v n : ℕ) (l : List ℕ) → Filled (λ i. v) n l n → l ≡ replicate n v
+pub listed-ext : (n : ℕ) (f h : ℕ → ℕ) → ((i : ℕ) → i < n → f i ≡ h i) → listed n f ≡ listed n h
+listed-ext n f h e = filled h n (listed n f) (record { size = length-listed n f; same = λ i l. getD-listed n f i l ∙ e i l })
+
+pub filled-same : (v n : ℕ) (l : List ℕ) → Filled (λ i. v) n l n → l ≡ replicate n v
 filled-same v n l h = filled (λ i. v) n l h ∙ listed-same n v
 
 -- ---- the run

@@ -2,6 +2,8 @@
 use mathlib.Core.Path.{_≡_, refl, sym, ap, _∙_}
 use Prim.Native.Nat.{ℕ, zero, suc, _+_, _-_, _*_, _/_, _%_, _≤_, _<_, min}
 use native.Mathlib.Omega.{arith}
+use Rattle.laws.specs.Sum.{sumTo, at}
+use Rattle.laws.proofs.Sum.{sum-single, sum-zero, at-same, at-other, here, elsewhere, placed}
 use Rattle.laws.proofs.Trees as Trees
 use Rattle.rules.specs.Numbers.{Shape, perTree, treesOf, childrenOf}
 
@@ -44,3 +46,10 @@ module _ (g : Shape) (k+ : 0 < perTree g) where
   pub number-in : (h : ℕ) → h < g .huge → h % perTree g < childrenOf g (h / perTree g)
   unfolding childrenOf
   number-in = Trees.number-in (perTree g) (g .huge) k+
+
+  -- an amount at child c of tree t, summed over the children of tree y
+  pub sum-tree : (t c d y : ℕ) → c < childrenOf g t → sumTo (childrenOf g y) (λ i. at (t * perTree g + c) d (y * perTree g + i)) ≡ at t d y
+  sum-tree t c d y h = elim (placed t d y) [
+    | here e q ↦ rw (← e) (sum-single (childrenOf g t) c (λ i. at (t * perTree g + c) d (t * perTree g + i)) h (λ i l m. at-other _ d _ (λ o. m (omega arith))) ∙ at-same _ d ∙ sym (at-same t d))
+    | elsewhere e q ↦ sum-zero (childrenOf g y) _ (λ i l. at-other _ d _ (λ o. e (sym (tree-of-child t c h) ∙ ap (λ x. x / perTree g) o ∙ tree-of-child y i l))) ∙ sym q
+  ]

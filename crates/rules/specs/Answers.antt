@@ -37,12 +37,9 @@ byAnswer Answer.Damaged d u e = e
 byAnswer Answer.NotSettled d u e = e
 byAnswer Answer.BadSize d u e = e
 
--- from 1 up the frame is 0; all but 1 hand back the finished record
+-- from 1 up the frame is 0
 abbrev pub frameOf : Answer → ℕ
 frameOf a = byAnswer a (λ f. f) (λ r. 0) 0
-
-abbrev pub recordOf : Answer → Record
-recordOf a = byAnswer a (λ f. Record.Finished) (λ r. r) Record.Finished
 
 -- whether an operation ends with an answer, or goes on with a record
 pub data Next : Type 0 where
@@ -55,3 +52,7 @@ nextOf a = byAnswer a (λ f. ends) goesOn ends
 abbrev pub byNext {ℓ} : {A : Type ℓ} → Next → A → (Record → A) → A
 byNext ends e f = e
 byNext (goesOn r) e f = f r
+
+-- all answers but 1 hand back the finished record
+abbrev pub recordOf : Answer → Record
+recordOf a = byNext (nextOf a) Record.Finished (λ r. r)

@@ -21,3 +21,6 @@ pub mod Bounds
 pub mod Refusals
 pub mod Fresh
 pub mod Layouts
+pub mod Events
+pub mod Promise
+pub mod Reopen
