@@ -92,6 +92,10 @@ pub at-other : (i d j : ℕ) → i ≢ j → at i d j ≡ 0
 unfolding at
 at-other i d j h = pick-no (eqb i j) d 0 (ne-eqb i j h)
 
+pub at-none : (i j : ℕ) → at i 0 j ≡ 0
+unfolding at
+at-none i j = pick-elim (λ x. x ≡ 0) (eqb i j) (λ e. refl) (λ e. refl)
+
 -- what a proof by cases goes by
 pub data Placed (i d j : ℕ) : Type 0 where
   here : i ≡ j → at i d j ≡ d → Placed i d j

@@ -5,19 +5,21 @@ use mathlib.Core.Bool.{Bool, true, false}
 use mathlib.Core.List.{List, [], _∷_, _++_}
 use Prim.Native.Nat.{ℕ, zero, suc, _+_, _-_, _*_, _^_, _≤_, _<_}
 use native.Mathlib.Omega.{arith}
+use native.Mathlib.Nat.{add-zero}
 use native.Mathlib.Decide.{ℕ-discrete}
 use lib.ListN.{length, getD, set, length-set}
 use Rattle.laws.specs.Tests.{pick, Passes}
 use Rattle.laws.specs.Sum.{sumTo, sumL, run, at, upd}
 use Rattle.laws.specs.Words.{bits, ones}
-use Rattle.laws.proofs.Sum.{sum-upd, sumL-append, map-upd, upd-at, upd-other, sum-ext, sum-add, sum-bound}
+use Rattle.laws.proofs.Sum.{at-same, at-none, sum-upd, sumL-append, map-upd, upd-at, upd-other, sum-ext, sum-add, sum-bound}
 use Rattle.rules.specs.Types.{Tree, Order, Block, ChildEntry, CpuEntry, Record, Answer}
 use Rattle.rules.specs.Numbers.{childFrames, childWords, wordBits, mostHuge, mostCpus, format1, Shape, perTree, treesOf, childrenOf, capacity}
+use Rattle.rules.specs.Conversions.{huge, frame}
 use Rattle.rules.specs.Answers.{number, byAnswer, Next, ends, goesOn, recordOf, nextOf, byNext}
 use Rattle.rules.specs.Entries.{headerWord, running, treeWord, holdsChecks, cpuSays, cpuWord}
 use Rattle.rules.specs.Lower.{childSays, countWord, flaggedWord}
 use Rattle.rules.specs.Zone.{Zone, shaped, Store, stored, nothing}
-use Rattle.rules.specs.Plan.{Mark, plain, Plan, says}
+use Rattle.rules.specs.Plan.{Mark, plain, takes, clears, Plan, says}
 use Rattle.rules.specs.Events.{Begun, Cpu, resting, taken, unlessCleared, lostBy, handed}
 use Rattle.rules.specs.Promise.{ownedBy, most}
 use Rattle.rules.proofs.Layouts.{format1-sound}
@@ -220,3 +222,105 @@ module _ (n : ℕ) (z : Zone) (cs : ℕ → Cpu) (held lost : List Block) (u : U
       (owned-same n cs′ ws₀ _ _ _ lower _ _ _ (λ x. refl) (λ b. weigh-same _ a f (baseOf b)) (λ b. weigh-same _ a f (wholeOf b)))
       (lower-upper cs′ ws₀ (recordOf a)
       (λ y b. omega (arith, o y, tree-free cs′ ws₀ t c 0 0 h (λ x. ap (λ b. b + at i 0 x) (count-free n cs₀ ws₀ _ _ _ (u .lower) i k k′ m q d x)) y)) v w (f .proper))
+
+  -- ---- marked stores: a block is owned from its taking store on, and no longer from its clearing store on
+
+  module _ (st : Store) (a : Answer) (b : Block) (h : handed (cs j .begun) a ≡ []) where
+    weigh-takes : ownedBy r ≡ [] → ownedBy (recordOf a) ≡ b ∷ [] → (w : Block → ℕ) → weighed w (takes b) a ≡ weighs w held lost (length (z .cpus)) cs + w b
+    unfolding sumL
+    weigh-takes p q w = omega (arith, weigh-step (record { store = st; answer = a; mark = takes b }) w, ap (sumL w) h, ap (sumL w) p, ap (sumL w) q)
+
+    weigh-clears : ownedBy r ≡ b ∷ [] → ownedBy (recordOf a) ≡ [] → (w : Block → ℕ) → weighed w (clears b) a + w b ≡ weighs w held lost (length (z .cpus)) cs
+    unfolding sumL
+    weigh-clears p q w = omega (arith, weigh-step (record { store = st; answer = a; mark = clears b }) w, ap (sumL w) h, ap (sumL w) p, ap (sumL w) q)
+
+  -- the taking store of a huge frame
+  pub flag-kept : (t c : ℕ) (a : Answer) → let b : Block = Block.Whole (huge (t * perTree g + c)) in let p : Plan = record { store = Store.child (t * perTree g + c) flaggedWord; answer = a; mark = takes b } in
+      Fine p → handed (cs j .begun) a ≡ [] → ownedBy r ≡ [] → ownedBy (recordOf a) ≡ b ∷ [] → c < childrenOf g t → childSays (getD cs₀ (t * perTree g + c) 0) ≡ ChildEntry.Counts childFrames
+      → ((x : ℕ) → lowOf g (recordOf a) x ≡ lowOf g r x) → ((y : ℕ) → owed g (recordOf a) y + at t childFrames y ≡ owed g r y) → ((y : ℕ) → reserves r y ≡ reserves (recordOf a) y)
+      → Wanted (want (recordOf a)) (entryAt g (z .cpus) j) → Keeps p
+  unfolding stored baseOf wholeOf
+  flag-kept t c a f hd o₁ o₂ h q low o v w =
+      let i : ℕ = t * perTree g + c in
+      let b : Block = Block.Whole (huge i) in
+      let st : Store = Store.child i flaggedWord in
+      let p : Plan = record { store = st; answer = a; mark = takes b } in
+      let m : i < n = child-in g (omega arith) t c h in
+      let cs′ : List ℕ = set cs₀ i flaggedWord in
+      let wt = weigh-takes st a b hd o₁ o₂ in
+      let lower = flag-stored n cs₀ ws₀ _ _ _ (u .lower) i (λ x. weighed (wholeOf x) (takes b) a) m q (λ x. wt (wholeOf x)) in
+      together p _ refl f refl refl
+      (owned-same n cs′ ws₀ _ _ _ lower _ _ _ (λ x. omega (arith, low-step p x, low x)) (λ x. wt (baseOf x) ∙ add-zero _) (λ x. refl))
+      (lower-upper cs′ ws₀ (recordOf a)
+      (λ y b. omega (arith, o y, tree-free cs′ ws₀ t c childFrames 0 h (λ x. flag-free n cs₀ ws₀ _ _ _ (u .lower) i m q x ∙ omega (arith, at-none i x)) y, at-none t y)) v w (f .proper))
+
+  -- the clearing store of a huge frame
+  pub unflag-kept : (t c : ℕ) (a : Answer) → let b : Block = Block.Whole (huge (t * perTree g + c)) in let p : Plan = record { store = Store.child (t * perTree g + c) (countWord childFrames); answer = a; mark = clears b } in
+      Fine p → handed (cs j .begun) a ≡ [] → ownedBy r ≡ b ∷ [] → ownedBy (recordOf a) ≡ [] → c < childrenOf g t → childSays (getD cs₀ (t * perTree g + c) 0) ≡ ChildEntry.Flagged
+      → ((x : ℕ) → lowOf g (recordOf a) x ≡ lowOf g r x) → ((y : ℕ) → owed g (recordOf a) y ≡ owed g r y + at t childFrames y) → ((y : ℕ) → reserves r y ≡ reserves (recordOf a) y)
+      → Wanted (want (recordOf a)) (entryAt g (z .cpus) j) → Keeps p
+  unfolding stored baseOf wholeOf
+  unflag-kept t c a f hd o₁ o₂ h q low o v w =
+      let i : ℕ = t * perTree g + c in
+      let b : Block = Block.Whole (huge i) in
+      let st : Store = Store.child i (countWord childFrames) in
+      let p : Plan = record { store = st; answer = a; mark = clears b } in
+      let m : i < n = child-in g (omega arith) t c h in
+      let cs′ : List ℕ = set cs₀ i (countWord childFrames) in
+      let wt = weigh-clears st a b hd o₁ o₂ in
+      let lower = flag-cleared n cs₀ ws₀ _ _ _ (u .lower) i (λ x. weighed (wholeOf x) (clears b) a) m q (λ x. wt (wholeOf x)) in
+      together p _ refl f refl refl
+      (owned-same n cs′ ws₀ _ _ _ lower _ _ _ (λ x. omega (arith, low-step p x, low x)) (λ x. sym (add-zero _) ∙ wt (baseOf x)) (λ x. refl))
+      (lower-upper cs′ ws₀ (recordOf a)
+      (λ y b. omega (arith, o y, tree-free cs′ ws₀ t c 0 childFrames h (λ x. omega (arith, unflag-free n cs₀ ws₀ _ _ _ (u .lower) i m q x, at-none i x)) y, at-none t y)) v w (f .proper))
+
+  -- word i of child c of tree t, and the frame of its bit b
+  abbrev wordNo : ℕ → ℕ → ℕ → ℕ
+  wordNo t c i = childWords * (t * perTree g + c) + i
+
+  abbrev frameNo : ℕ → ℕ → ℕ → ℕ → ℕ
+  frameNo t c i b = (t * perTree g + c) * childFrames + i * wordBits + b
+
+  -- the taking store of a base frame
+  pub bits-kept : (t c i b : ℕ) (a : Answer) → let x : Block = Block.Base (frame (frameNo t c i b)) in
+      let p : Plan = record { store = Store.word (wordNo t c i) (getD ws₀ (wordNo t c i) 0 + ones 1 b); answer = a; mark = takes x } in
+      Fine p → handed (cs j .begun) a ≡ [] → ownedBy r ≡ [] → ownedBy (recordOf a) ≡ x ∷ [] → c < childrenOf g t → i < childWords → b + 1 ≤ wordBits → bits 1 b (getD ws₀ (wordNo t c i) 0) ≡ 0
+      → ((y : ℕ) → lowOf g (recordOf a) y + at (t * perTree g + c) 1 y ≡ lowOf g r y) → ((y : ℕ) → owed g (recordOf a) y + at t 1 y ≡ owed g r y) → ((y : ℕ) → reserves r y ≡ reserves (recordOf a) y)
+      → Wanted (want (recordOf a)) (entryAt g (z .cpus) j) → Keeps p
+  unfolding stored baseOf wholeOf
+  bits-kept t c i b a f hd o₁ o₂ h k d q low o v w =
+      let x : Block = Block.Base (frame (frameNo t c i b)) in
+      let nu : ℕ = getD ws₀ (wordNo t c i) 0 + ones 1 b in
+      let st : Store = Store.word (wordNo t c i) nu in
+      let p : Plan = record { store = st; answer = a; mark = takes x } in
+      let m : t * perTree g + c < n = child-in g (omega arith) t c h in
+      let ws′ : List ℕ = set ws₀ (wordNo t c i) nu in
+      let wt = weigh-takes st a x hd o₁ o₂ in
+      let lq : (y : ℕ) → lows g (upd cs j (answered (cs j) (takes x) a)) y + at (t * perTree g + c) 1 y ≡ lows g cs y = λ y. omega (arith, low-step p y, low y) in
+      let some : 1 ≤ lows g cs (t * perTree g + c) = omega (arith, lq (t * perTree g + c), at-same (t * perTree g + c) 1) in
+      let lower = bits-stored n cs₀ ws₀ _ _ _ (u .lower) (t * perTree g + c) i 1 b (lows g (upd cs j (answered (cs j) (takes x) a))) (λ y. weighed (baseOf y) (takes x) a) m k d (omega arith) some q lq (λ y. wt (baseOf y)) in
+      together p _ refl f refl refl
+      (owned-same n cs₀ ws′ _ _ _ lower _ _ _ (λ y. refl) (λ y. refl) (λ y. wt (wholeOf y) ∙ add-zero _))
+      (lower-upper cs₀ ws′ (recordOf a)
+      (λ y b′. omega (arith, o y, tree-free cs₀ ws′ t c 1 0 h (λ y. set-free n cs₀ ws₀ _ _ _ (u .lower) (t * perTree g + c) i 1 b m k d (omega arith) some q y ∙ omega (arith, at-none (t * perTree g + c) y)) y, at-none t y)) v w (f .proper))
+
+  -- the clearing store of a base frame
+  pub bits-unkept : (t c i b : ℕ) (a : Answer) → let x : Block = Block.Base (frame (frameNo t c i b)) in
+      let p : Plan = record { store = Store.word (wordNo t c i) (getD ws₀ (wordNo t c i) 0 - ones 1 b); answer = a; mark = clears x } in
+      Fine p → handed (cs j .begun) a ≡ [] → ownedBy r ≡ x ∷ [] → ownedBy (recordOf a) ≡ [] → c < childrenOf g t → i < childWords → b + 1 ≤ wordBits → bits 1 b (getD ws₀ (wordNo t c i) 0) ≡ 1
+      → ((y : ℕ) → lowOf g (recordOf a) y ≡ lowOf g r y + at (t * perTree g + c) 1 y) → ((y : ℕ) → owed g (recordOf a) y ≡ owed g r y + at t 1 y) → ((y : ℕ) → reserves r y ≡ reserves (recordOf a) y)
+      → Wanted (want (recordOf a)) (entryAt g (z .cpus) j) → Keeps p
+  unfolding stored baseOf wholeOf
+  bits-unkept t c i b a f hd o₁ o₂ h k d q low o v w =
+      let x : Block = Block.Base (frame (frameNo t c i b)) in
+      let nu : ℕ = getD ws₀ (wordNo t c i) 0 - ones 1 b in
+      let st : Store = Store.word (wordNo t c i) nu in
+      let p : Plan = record { store = st; answer = a; mark = clears x } in
+      let m : t * perTree g + c < n = child-in g (omega arith) t c h in
+      let ws′ : List ℕ = set ws₀ (wordNo t c i) nu in
+      let wt = weigh-clears st a x hd o₁ o₂ in
+      let lower = bits-cleared n cs₀ ws₀ _ _ _ (u .lower) (t * perTree g + c) i 1 b (lows g (upd cs j (answered (cs j) (clears x) a))) (λ y. weighed (baseOf y) (clears x) a) m k d (omega arith) q (λ y. omega (arith, low-step p y, low y)) (λ y. wt (baseOf y)) in
+      together p _ refl f refl refl
+      (owned-same n cs₀ ws′ _ _ _ lower _ _ _ (λ y. refl) (λ y. refl) (λ y. sym (add-zero _) ∙ wt (wholeOf y)))
+      (lower-upper cs₀ ws′ (recordOf a)
+      (λ y b′. omega (arith, o y, tree-free cs₀ ws′ t c 0 1 h (λ y. omega (arith, clear-free n cs₀ ws₀ _ _ _ (u .lower) (t * perTree g + c) i 1 b m k d (omega arith) q y, at-none (t * perTree g + c) y)) y, at-none t y)) v w (f .proper))
