@@ -149,7 +149,7 @@ module _ (g : Shape) (k+ : 0 < perTree g) (n+ : 0 < g .huge) (cpu : ℕ) (l : cp
   unfolding takingIn takingLeft
   claimed o p s m h v x = goes (Taking.Child o p s s) _ (passes-both (placeIn g cpu p) _ h (v, (v, tt)), omega (arith, to-come (placeTree p .0) s s v v, kids-most g k+ (placeTree p .0)))
 
-  pass-tree : (p : Pass) → Passes (passIn g p) → passTree p .0 < treesOf g
+  pub pass-tree : (p : Pass) → Passes (passIn g p) → passTree p .0 < treesOf g
   unfolding passIn
   pass-tree (Pass.Near t b) h = h .0
   pass-tree (Pass.Partial t) h = h .0

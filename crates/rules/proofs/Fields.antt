@@ -17,7 +17,7 @@ use Rattle.laws.proofs.Words.{zeros-le, zeros-set, zeros-clear, set-bits, clear
 use Rattle.rules.specs.Types.{ChildEntry}
 use Rattle.rules.specs.Numbers.{childFrames, childWords, wordBits}
 use Rattle.rules.specs.Lower.{childSays, countWord, byChild, wellFormed, isFlagged, countIn, recount, zeroBits}
-use Rattle.rules.proofs.Layouts.{count-again}
+use Rattle.rules.proofs.Layouts.{count-again, ChildView, child-view}
 
 -- ---- an entry
 
@@ -28,6 +28,14 @@ counts-entry x k e = rw e (refl, refl, refl)
 pub flagged-entry : (x : ℕ) → childSays x ≡ ChildEntry.Flagged → (wellFormed x ≡ true) × (isFlagged x ≡ true) × (countIn x ≡ 0)
 unfolding wellFormed isFlagged countIn byChild
 flagged-entry x e = rw e (refl, refl, refl)
+
+pub count-fits : (x k : ℕ) → childSays x ≡ ChildEntry.Counts k → k ≤ childFrames
+count-fits x k = go (childSays x) (child-view x)
+  where
+    go : (e : ChildEntry) → ChildView x e → e ≡ ChildEntry.Counts k → k ≤ childFrames
+    go ChildEntry.Damaged (ChildView.broken q) e = let z : _≡_ {A = ℕ} 0 1 = cc in absurd (omega arith)
+    go (ChildEntry.Counts i) (ChildView.counts p) e = let q : i ≡ k = cc in omega (arith, p .1 .1 .0)
+    go ChildEntry.Flagged (ChildView.flagged p) e = let z : _≡_ {A = ℕ} 0 1 = cc in absurd (omega arith)
 
 -- a well-formed entry says one of two things
 pub data Says (x : ℕ) : Type 0 where

@@ -6,17 +6,17 @@ use Prim.Native.Nat.{ℕ, zero, suc, _+_, _-_, _*_, _≤_, _<_}
 use native.Mathlib.Omega.{arith}
 use lib.Dec.{eqb, leb, ltb}
 use lib.ListN.{getD}
-use borrow.Author.Tests.{eqb-true, eqb-false, leb-true, leb-false, not-false}
+use borrow.Author.Tests.{eqb-true, eqb-false, leb-true, leb-false, le-leb, not-false}
 use Rattle.laws.specs.Tests.{pick, Check, _is_, passes, Passes}
-use Rattle.laws.proofs.Tests.{pick-elim, true-false, all-passed}
+use Rattle.laws.proofs.Tests.{pick-elim, pick-yes, true-false, all-passed, passes-of}
 use Rattle.rules.specs.Types.{Tree, ChildEntry, TreeEntry, CpuEntry, Took, Bit, Gave, Answer}
-use Rattle.rules.specs.Numbers.{Shape, capacity}
+use Rattle.rules.specs.Numbers.{childWords, Shape, perTree, capacity}
 use Rattle.rules.specs.Conversions.{tree}
 use Rattle.rules.specs.Entries.{field, cpuLayout, treeLayout, holdsChecks, treeSays, cpuSays}
-use Rattle.rules.specs.Lower.{Change, keep, become, Lowered, byChild}
+use Rattle.rules.specs.Lower.{Change, keep, become, Lowered, told, changed, byChild}
 use Rattle.rules.specs.Zone.{Zone, Store, nothing, header, word, child, tree as treeStore, cpu, treeEntryAt, cpuEntryAt, childPart, wordPart}
 use Rattle.rules.proofs.Layouts.{CpuView, brokenCpu, absent, holds, cpu-view}
-use Rattle.rules.specs.Plan.{Mark, plain, Plan, refuse, Refusal, guarded, Made, look, Tally, Step, noEntry, cpuEntry, treeEntry, childEntry, wordEntry, byChange, byCpu, byTree, made, laidOut, toCpu, toTree, toChild, toWord, carried, lowered, byTook, byBit, byGave, onTook, onBit, onGave}
+use Rattle.rules.specs.Plan.{Mark, plain, Plan, says, refuse, Refusal, guarded, Made, look, store, Tally, tally, Step, noEntry, cpuEntry, treeEntry, childEntry, wordEntry, byChange, byCpu, byTree, made, laidOut, toCpu, toTree, toChild, toWord, carried, lowered, byTook, byBit, byGave, onTook, onBit, onGave}
 
 -- ---- refusals: each answer of the list, and what is known past it
 abbrev pub EachRefusal : (Plan → Type 0) → List Refusal → Type 0
@@ -78,6 +78,53 @@ unfolding treeSays
 count-in g t x r k = pick-elim (λ e. e ≡ TreeEntry.Counts r k → k ≤ capacity g (t .0)) (leb (field treeLayout 1 x) (capacity g (t .0)))
     (λ b e. let a : field treeLayout 1 x ≡ k = cc in omega (arith, leb-true (field treeLayout 1 x) (capacity g (t .0)) b))
     (λ b e. let z : _≡_ {A = ℕ} 0 1 = cc in absurd (omega arith))
+
+-- ---- the plan of a look, and of a store that keeps its layout
+module _ (g : Shape) where
+  pub look-plan : (j : ℕ) (a : Answer) → toCpu g j (look a) ≡ refuse a
+  unfolding toCpu byChange
+  look-plan j a = refl
+
+  pub absent-plan : (j : ℕ) (a : Answer) → toCpu g j (store CpuEntry.Absent a) ≡ says (cpu j CpuEntry.Absent) a
+  unfolding toCpu byChange laidOut byCpu pick
+  absent-plan j a = refl
+
+  pub holds-plan : (j : ℕ) (t : Tree) (s k : ℕ) (a : Answer) → Passes (holdsChecks g t s k) → toCpu g j (store (CpuEntry.Holds t s k) a) ≡ says (cpu j (CpuEntry.Holds t s k)) a
+  unfolding toCpu byChange laidOut byCpu
+  holds-plan j t s k a p = pick-yes _ _ _ (passes-of (holdsChecks g t s k) p)
+
+  pub tree-look-plan : (t : Tree) (a : Answer) → toTree g t (look a) ≡ refuse a
+  unfolding toTree byChange
+  tree-look-plan t a = refl
+
+  pub tally-plan : (t : Tree) (b k : ℕ) (a : Answer) → k ≤ capacity g (t .0) → toTree g t (store (tally b k) a) ≡ says (treeStore (t .0) b k) a
+  unfolding toTree byChange
+  tally-plan t b k a h = pick-yes _ _ _ (le-leb k (capacity g (t .0)) h)
+
+  -- of a child or a word, by what the lower level said
+  pub taken-plan : (t : Tree) (c v : ℕ) (a : Answer) (m : Mark) (p : Answer) → toChild g t c (onTook (changed Took.Taken v) a m p) ≡ record { store = child (t .0 * perTree g + c) v; answer = a; mark = m }
+  unfolding toChild byChange byTook
+  taken-plan t c v a m p = refl
+
+  pub passed-plan : (t : Tree) (c : ℕ) (a : Answer) (m : Mark) (p : Answer) → toChild g t c (onTook (told Took.Passed) a m p) ≡ refuse p
+  unfolding toChild byChange byTook
+  passed-plan t c a m p = refl
+
+  pub given-plan : (t : Tree) (c v : ℕ) (a : Answer) (m : Mark) → toChild g t c (onGave (changed Gave.Given v) a m) ≡ record { store = child (t .0 * perTree g + c) v; answer = a; mark = m }
+  unfolding toChild byChange byGave
+  given-plan t c v a m = refl
+
+  pub bit-plan : (t : Tree) (i b v : ℕ) (a : ℕ → Answer) (m : ℕ → Mark) (p : Answer) → toWord g t i (onBit (changed (Bit.At b) v) a m p) ≡ record { store = word (childWords * (t .0 * perTree g) + i) v; answer = a b; mark = m b }
+  unfolding toWord byChange byBit
+  bit-plan t i b v a m p = refl
+
+  pub full-plan : (t : Tree) (i : ℕ) (a : ℕ → Answer) (m : ℕ → Mark) (p : Answer) → toWord g t i (onBit (told Bit.Full) a m p) ≡ refuse p
+  unfolding toWord byChange byBit
+  full-plan t i a m p = refl
+
+  pub cleared-plan : (t : Tree) (i v : ℕ) (a : Answer) (m : Mark) → toWord g t i (onGave (changed Gave.Given v) a m) ≡ record { store = word (childWords * (t .0 * perTree g) + i) v; answer = a; mark = m }
+  unfolding toWord byChange byGave
+  cleared-plan t i v a m = refl
 
 -- ---- the answer of a step, by the entry that it reads
 abbrev pub Answers : Shape → (Answer → Type 0) → Step → Type 0

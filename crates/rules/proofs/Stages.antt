@@ -20,13 +20,13 @@ use Rattle.rules.specs.Answers.{number}
 use Rattle.rules.specs.Entries.{holdsChecks}
 use Rattle.rules.specs.Lower.{Lowered, told, changed, childSays, byChild, claim, takeHuge, giveCount, clearHuge, takeRun, clearRun}
 use Rattle.rules.specs.Zone.{Zone, Store, treeEntryAt, cpuEntryAt, childPart, wordPart}
-use Rattle.rules.specs.Plan.{Mark, plain, Plan, refuse, Made, look, store, Tally, tally, Step, noEntry, cpuEntry, treeEntry, childEntry, wordEntry, laidOut, toCpu, toTree, toChild, toWord, carried, byChange, byCpu, byTook, byBit, byGave, onTook, onBit, onGave}
+use Rattle.rules.specs.Plan.{Mark, plain, Plan, says, refuse, Made, look, store, Tally, tally, Step, noEntry, cpuEntry, treeEntry, childEntry, wordEntry, laidOut, toCpu, toTree, toChild, toWord, carried, byChange, byCpu, byTook, byBit, byGave, onTook, onBit, onGave}
 use Rattle.rules.specs.Ranges.{takingIn, givingIn, blockIn, placeIn, foundIn, passIn}
 use Rattle.rules.specs.Places.{classOf, fits, passTree, foundTree, placeTree}
 use Rattle.rules.specs.Take.{get, ifOwnHolds, claimOwn, release, write, stealCount, nextChild, searchChild, searchWord, take}
 use Rattle.rules.specs.Give.{clear, give}
 use Rattle.rules.specs.Refusals.{First, Quiet, Broken, cpuAt, treeAt, CpuPasses, TreePasses, ChildPasses, childEntryAt, Damage, NotTaken, entryRules, StepElse, NoRoomAt}
-use Rattle.rules.proofs.Guards.{cpu-elim, tree-elim, child-elim, change-elim, holds-in, count-in}
+use Rattle.rules.proofs.Guards.{look-plan, absent-plan, holds-plan, tree-look-plan, cpu-elim, tree-elim, child-elim, change-elim, holds-in, count-in}
 use Rattle.rules.proofs.Falls.{found-tree}
 use Rattle.rules.proofs.Shapes.{kids-some, tree-in, number-in}
 
@@ -93,24 +93,20 @@ module _ (g : Shape) (z : Zone) (r : Record) where
   -- ---- by what is stored
 
   told-look : (j : ℕ) (a : Answer) → Told (refuse a) → Told (toCpu g j (look a))
-  unfolding toCpu byChange
-  told-look j a h = h
+  told-look j a h = rw (look-plan g j a) h
 
-  told-absent : (j : ℕ) (a : Answer) → Told (record { store = Store.cpu j CpuEntry.Absent; answer = a; mark = plain }) → Told (toCpu g j (store CpuEntry.Absent a))
-  unfolding toCpu byChange laidOut byCpu pick
-  told-absent j a h = h
+  told-absent : (j : ℕ) (a : Answer) → Told (says (Store.cpu j CpuEntry.Absent) a) → Told (toCpu g j (store CpuEntry.Absent a))
+  told-absent j a h = rw (absent-plan g j a) h
 
-  told-holds : (j : ℕ) (t : Tree) (s k : ℕ) (a : Answer) → Passes (holdsChecks g t s k) → Told (record { store = Store.cpu j (CpuEntry.Holds t s k); answer = a; mark = plain }) → Told (toCpu g j (store (CpuEntry.Holds t s k) a))
-  unfolding toCpu byChange laidOut byCpu
-  told-holds j t s k a p h = rw (passes-of (holdsChecks g t s k) p) (rw (pick-yes true _ _ refl) h)
+  told-holds : (j : ℕ) (t : Tree) (s k : ℕ) (a : Answer) → Passes (holdsChecks g t s k) → Told (says (Store.cpu j (CpuEntry.Holds t s k)) a) → Told (toCpu g j (store (CpuEntry.Holds t s k) a))
+  told-holds j t s k a p h = rw (holds-plan g j t s k a p) h
 
   told-passes : (j : ℕ) (t : Tree) (s k : ℕ) (a : Answer) → capacity g (t .0) < k → Told (refuse Answer.Damaged) → Told (toCpu g j (store (CpuEntry.Holds t s k) a))
   unfolding toCpu byChange laidOut byCpu
   told-passes j t s k a l h = pick-elim Told (passes (holdsChecks g t s k)) (λ e. let p = all-passed (holdsChecks g t s k) e in absurd (omega (arith, p .1 .1 .0))) (λ e. h)
 
   told-tree-look : (t : Tree) (a : Answer) → Told (refuse a) → Told (toTree g t (look a))
-  unfolding toTree byChange
-  told-tree-look t a h = h
+  told-tree-look t a h = rw (tree-look-plan g t a) h
 
   -- a tree's count that fits, and one that does not
   told-count : (t : Tree) (b k : ℕ) (a : Answer) → (k ≤ capacity g (t .0) → Told (record { store = Store.tree (t .0) b k; answer = a; mark = plain })) → (capacity g (t .0) < k → Damage g z r) → Told (toTree g t (store (tally b k) a))
@@ -171,6 +167,10 @@ same-tally e b b′ k k′ p q = cc
 
 same-entry : (e : CpuEntry) (t : Tree) (s s′ k k′ : ℕ) → e ≡ CpuEntry.Holds t s k → e ≡ CpuEntry.Holds t s′ k′ → k ≡ k′
 same-entry e t s s′ k k′ p q = cc
+
+pub block-huge : (g : Shape) (b : Block) → Passes (blockIn g b) → hugeOfBlock b .0 < g .huge
+block-huge g (Block.Base f) h = omega (arith, h .0)
+block-huge g (Block.Whole h) q = q .0
 
 -- ---- the stages of a get
 
@@ -235,10 +235,6 @@ module _ (g : Shape) (z : Zone) (k+ : 0 < perTree g) (n+ : 0 < g .huge) (j : ℕ
   child-fits t c s k e l (inl q) = count-flag _ k e q
   child-fits t c s k e l (inr q) = let w : k ≡ q .0 = same-count (childEntryAt g z t c) k (q .0) e (q .1) in omega (arith, q .2)
 
-  block-huge : (b : Block) → Passes (blockIn g b) → hugeOfBlock b .0 < g .huge
-  block-huge (Block.Base f) h = omega (arith, h .0)
-  block-huge (Block.Whole h) q = q .0
-
   no-room : Told g z (Record.Get j Taking.NoRoom) (carried g z (noEntry Answer.NoRoom))
   unfolding carried
   no-room = record { answered = inr (sound never never, inr (never, inr (refl, (j, refl)))); quiet = λ h. refl }
@@ -290,7 +286,7 @@ module _ (g : Shape) (z : Zone) (k+ : 0 < perTree g) (n+ : 0 < g .huge) (j : ℕ
   take-told (Taking.GiveBack p s c) h = told-child g z _ (placeTree p) c _ (told-give g z _ (placeTree p) c _ 1 _ _ (next-number Order.Zero p s c) inl (λ e. inr (inl e)) (λ k e l. inr (inr (k, e, l)))
       (λ k e l. sound (count-no _ k e) (child-fits (placeTree p) c 1 k e l)) never)
   take-told (Taking.Last b) h = told-own _ (treeOfBlock g b) _ _ (inr refl) inl never (λ u v. sound u never) (λ s k e p.
-      told-holds g z _ j (treeOfBlock g b) (childOfBlock g b) k _ (p .0, (number-in g k+ _ (block-huge b h), (p .1 .1 .0, tt))) (goes g z _ _ (sound (clash _ _ s k e) never) never (inl refl)))
+      told-holds g z _ j (treeOfBlock g b) (childOfBlock g b) k _ (p .0, (number-in g k+ _ (block-huge g b h), (p .1 .1 .0, tt))) (goes g z _ _ (sound (clash _ _ s k e) never) never (inl refl)))
   take-told (Taking.Fail o p) h = told-add _ (placeTree p) (size o) (λ b. b) _ (inr refl) (λ d. d) (λ d. d) never
   take-told Taking.NoRoom h = no-room
 
