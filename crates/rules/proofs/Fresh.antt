@@ -97,10 +97,10 @@ pub record Good (z₀ : Zone) (c t j : ℕ) (z : Zone) : Type 0 where
   pub cpus : Filled (λ i. 0) (shapeOf z₀ .cpus) (z .cpus) j
 
 module _ (z₀ : Zone) (ok : Accepts z₀) where
-  abbrev g : Shape
+  abbrev pub g : Shape
   g = shapeOf z₀
 
-  abbrev n : ℕ
+  abbrev pub n : ℕ
   n = g .huge
 
   trees+ : 0 < treesOf g
@@ -117,15 +117,15 @@ module _ (z₀ : Zone) (ok : Accepts z₀) where
   formed h i l = each (λ x. wellFormed x ≡ true) h i l (ok .formed i l) (pick-elim (λ x. wellFormed x ≡ true) (isRunning (headerOf z₀)) (λ e. recounted _ _ (zero-bits _ _) (ok .formed i l) .0) (λ e. ok .formed i l))
 
   -- a stage with d steps left
-  abbrev At : ℕ → Opening → Zone → Type 0
+  abbrev pub At : ℕ → Opening → Zone → Type 0
   At d (Opening.Children c) z = (c .0 < n) × (c .0 + d ≡ n + treesOf g + g .cpus) × (isRunning (headerOf z₀) ≡ true) × Good z₀ (c .0) 0 0 z
   At d (Opening.Trees t) z = (t .0 < treesOf g) × (t .0 + d ≡ treesOf g + g .cpus) × Good z₀ n (t .0) 0 z
   At d (Opening.Cpus j) z = (j < g .cpus) × (j + d ≡ g .cpus) × Good z₀ n (treesOf g) j z
 
-  abbrev Whole : Zone → Type 0
+  abbrev pub Whole : Zone → Type 0
   Whole = Good z₀ n (treesOf g) (g .cpus)
 
-  abbrev Opens : ℕ → Answer → Zone → Type 0
+  abbrev pub Opens : ℕ → Answer → Zone → Type 0
   Opens = Way Record.Open At Whole
 
   on : (d : ℕ) (s : Opening) (z : Zone) → 0 < d → At d s z → Opens d (opening s) z
@@ -150,7 +150,7 @@ module _ (z₀ : Zone) (ok : Accepts z₀) where
   unfolding childCount partSum
   tree-stored z t h = ap (treeWord 0) (sum-ext _ _ _ (λ c l. ap countIn (part-at _ _ (z .children) c 0 l ∙ h .children .same _ (child-in g (omega arith) t c l))))
 
-  next : (d : ℕ) (s : Opening) (z : Zone) → At (suc d) s z → Opens d (openStep z (Record.Open s) .answer) (after z (openStep z (Record.Open s)))
+  pub next : (d : ℕ) (s : Opening) (z : Zone) → At (suc d) s z → Opens d (openStep z (Record.Open s) .answer) (after z (openStep z (Record.Open s)))
   unfolding openingIn openStage stored cpuWord
   next d (Opening.Children c) z (l, e, r, h) =
       let v : ℕ = recount (zerosAt g z c) (childAt g z c) in
@@ -174,11 +174,11 @@ module _ (z₀ : Zone) (ok : Accepts z₀) where
       rw (step-is z h (Opening.Cpus j) (l, tt)) (onward (λ a. Opens d a z′) j _ l (λ m. on d _ z′ (omega arith) (m, omega arith, h′)) (λ q. over Record.Open At Whole d z′ (omega arith) (rw q at h′)))
 
   -- all steps but the first
-  abbrev total : ℕ
+  abbrev pub total : ℕ
   total = pick (isRunning (headerOf z₀)) n 0 + treesOf g + g .cpus
 
   -- with a running marker from the children on, else from the trees on
-  first : Opens total (openZone z₀ .answer) (after z₀ (openZone z₀))
+  pub first : Opens total (openZone z₀ .answer) (after z₀ (openZone z₀))
   unfolding stored pick
   first = rw (ok .plan) (go (isRunning (headerOf z₀)) refl)
     where
@@ -203,7 +203,7 @@ module _ (z₀ : Zone) (ok : Accepts z₀) where
   run fuel = way Record.Open At Whole openStep next fuel total 1 _ _ first
 
   -- how far open has come, after any number of steps and after all
-  at-good : (d : ℕ) (s : Opening) (z : Zone) → At d s z → (c : ℕ) × (t : ℕ) × (j : ℕ) × Good z₀ c t j z
+  pub at-good : (d : ℕ) (s : Opening) (z : Zone) → At d s z → (c : ℕ) × (t : ℕ) × (j : ℕ) × Good z₀ c t j z
   at-good d (Opening.Children c) z h = (_, _, _, h .3)
   at-good d (Opening.Trees t) z h = (_, _, _, h .2)
   at-good d (Opening.Cpus j) z h = (_, _, _, h .2)

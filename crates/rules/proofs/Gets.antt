@@ -35,7 +35,7 @@ use Rattle.rules.proofs.Shapes.{kids-some, some-tree, child-in, number-
 use Rattle.rules.proofs.Layouts.{format1-sound, holds-again, absent-again}
 use Rattle.rules.proofs.Shares.{mine, gone, share, has, lowOf, owed, reserves, Wanted, want, Proper, Enough, OfOrder, AgreesWith, Agrees}
 use Rattle.rules.proofs.Upper.{entryAt, tallyAt, flagAt, absent-wanted}
-use Rattle.rules.proofs.Invariant.{Up, Fine, Keeps, looked, own-kept, other-kept, tree-kept, count-kept, flag-kept, bits-kept}
+use Rattle.rules.proofs.Invariant.{BlockIn, AllIn, Up, Fine, Keeps, looked, own-kept, other-kept, tree-kept, count-kept, flag-kept, bits-kept}
 use Rattle.rules.proofs.Fields.{count-fits, Says, counts, flagged, says as says-entry}
 use Rattle.rules.proofs.Stages.{block-huge}
 use Rattle.rules.proofs.Readings.{flag-small, room, reserved, under-way, read-cpu, read-tree, read-child, read-word}
@@ -96,6 +96,7 @@ module _ (n : ℕ) (z : Zone) (cs : ℕ → Cpu) (held lost : List Block) (u : U
       lostly = rw (agreed .1) (agreed .3 ∙ w);
       agrees = (agreed .0, agreed .1, f (agreed .0) (agreed .2), agreed .3 ∙ w);
       small = rw (agreed .1) (omega arith);
+      inside = rw (agreed .1) tt;
     }
 
     -- ---- kinds of steps, with the get going on at stage s′
@@ -378,6 +379,7 @@ module _ (n : ℕ) (z : Zone) (cs : ℕ → Cpu) (held lost : List Block) (u : U
     lostly = rw (agreed s e .1) refl;
     agrees = (agreed s e .0, agreed s e .1, f (agreed s e .0) (agreed s e .2), refl);
     small = rw (agreed s e .1) (omega arith);
+    inside = rw (agreed s e .1) tt;
   }
 
   -- nothing is handed out while the get goes on
@@ -485,8 +487,12 @@ module _ (n : ℕ) (z : Zone) (cs : ℕ → Cpu) (held lost : List Block) (u : U
       div-whole : (k : ℕ) → k * childFrames / childFrames ≡ k
       div-whole k = omega arith
 
+  block-in : (b : Block) → Passes (blockIn g b) → BlockIn n b
+  block-in (Block.Base f) p = p .0
+  block-in (Block.Whole h) p = p .0
+
   fine-done : (b : Block) (e : cs j .latest ≡ Record.Get j (Taking.Last b)) (st : Store) → Good (Taking.Last b) e (says st (Answer.Done (firstOf b)))
-  unfolding taken lostBy
+  unfolding taken lostBy takingIn
   fine-done b e st =
       let a = agreed (Taking.Last b) e in
       record {
@@ -494,6 +500,7 @@ module _ (n : ℕ) (z : Zone) (cs : ℕ → Cpu) (held lost : List Block) (u : U
         lostly = rw (a .1) (a .3 ∙ ap (λ c. c ∷ []) (sym (same-block b (a .0) (a .2))));
         agrees = (refl, refl);
         small = omega arith;
+        inside = rw (a .1, same-block b (a .0) (a .2)) (block-in b (proper (Taking.Last b) e .0), tt);
       }
 
   last-stage : (b : Block) → Stage (Taking.Last b)
@@ -519,7 +526,7 @@ module _ (n : ℕ) (z : Zone) (cs : ℕ → Cpu) (held lost : List Block) (u : U
   no-room-stage e =
       let s : Taking = Taking.NoRoom in
       let a = agreed s e in
-      looked n z cs held lost u j l _ e _ (record { proper = tt; lostly = rw (a .1) (a .3); agrees = (refl, refl); small = rw (a .1) (omega arith) }) (λ x. refl) (λ x. refl) (λ x. refl) tt
+      looked n z cs held lost u j l _ e _ (record { proper = tt; lostly = rw (a .1) (a .3); agrees = (refl, refl); small = rw (a .1) (omega arith); inside = rw (a .1) tt }) (λ x. refl) (λ x. refl) (λ x. refl) tt
 
   pub get-kept : (s : Taking) → Stage s
   get-kept (Taking.Own o) = own-stage o

@@ -39,6 +39,15 @@ lows g cs x = sumTo (g .cpus) (λ j. lowOf g (cs j .latest) x)
 unfoldable pub freeTree : Shape → List ℕ → List ℕ → ℕ → ℕ
 freeTree g cs ws t = sumTo (childrenOf g t) (λ c. freeOf cs ws (t * perTree g + c))
 
+-- every block of a list lies in the zone
+abbrev pub BlockIn : ℕ → Block → Type 0
+BlockIn n (Block.Base f) = f .0 < n * childFrames
+BlockIn n (Block.Whole h) = h .0 < n
+
+abbrev pub AllIn : ℕ → List Block → Type 0
+AllIn n [] = Unit {0}
+AllIn n (b ∷ l) = BlockIn n b × AllIn n l
+
 pub record Up (n : ℕ) (z : Zone) (cs : ℕ → Cpu) (held lost : List Block) : Type 0 where
   pub some : 0 < n
   pub small : n ≤ mostHuge
@@ -67,6 +76,7 @@ module _ (n : ℕ) (z : Zone) (cs : ℕ → Cpu) (held lost : List Block) (u : U
     pub lostly : lostBy (cs j .begun) (p .mark ∷ cs j .marks) ≡ handed (cs j .begun) (p .answer) ++ ownedBy (recordOf (p .answer))
     pub agrees : Agrees (answered (cs j) (p .mark) (p .answer))
     pub small : number (p .answer) ≤ most (cs j .begun)
+    pub inside : AllIn n (handed (cs j .begun) (p .answer))
 
   pub record Keeps (p : Plan) : Type 0 where
     pub up : Up n (stored format1 z (p .store)) (upd cs j (answered (cs j) (p .mark) (p .answer))) (handed (cs j .begun) (p .answer) ++ held) lost

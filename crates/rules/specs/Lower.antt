@@ -4,7 +4,7 @@ use mathlib.Core.List.{List, [], _∷_}
 use Prim.Native.Nat.{ℕ, zero, suc, _+_, _-_, _*_, _/_, _^_}
 use lib.Dec.{eqb, leb, ltb}
 use lib.ListN.{getD}
-use Rattle.laws.specs.Tests.{pick, every, Check, _below_, _is_, passes}
+use Rattle.laws.specs.Tests.{pick, Check, _below_, _is_, passes}
 use Rattle.laws.specs.Sum.{sumTo}
 use Rattle.laws.specs.Fields.{split, join}
 use Rattle.laws.specs.Words.{zeros, ones, bits, lowest}
@@ -109,7 +109,7 @@ unfoldable pub zeroBits : List ℕ → ℕ → ℕ
 zeroBits ws c = sumTo childWords (λ i. zeros wordBits (getD ws (childWords * c + i) 0))
 
 unfoldable pub emptyField : List ℕ → ℕ → Bool
-emptyField ws c = every childWords (λ i. eqb (getD ws (childWords * c + i) 0) 0)
+emptyField ws c = eqb (zeroBits ws c) childFrames
 
 -- of a tree's part cs of the children: the sum of the first k counts
 unfoldable pub partSum : List ℕ → ℕ → ℕ
