@@ -47,12 +47,12 @@ not-filled f n l e = record { size = e; same = λ j h. absurd (omega arith) }
 pub one-more : (f : ℕ → ℕ) (n : ℕ) (l : List ℕ) (i : ℕ) → i < n → Filled f n l i → Filled f n (set l i (f i)) (suc i)
 one-more f n l i h k = record { size = length-set l i (f i) ∙ k .size; same = all-set (λ j x. x ≡ f j) l i (f i) (suc i) (omega (arith, k .size)) refl (λ j m q. k .same j (omega arith)) }
 
-length-listed : (n : ℕ) (f : ℕ → ℕ) → length (listed n f) ≡ n
+pub length-listed : (n : ℕ) (f : ℕ → ℕ) → length (listed n f) ≡ n
 unfolding listed
 length-listed zero f = refl
 length-listed (suc n) f = ap suc (length-listed n (λ i. f (suc i)))
 
-getD-listed : (n : ℕ) (f : ℕ → ℕ) (i : ℕ) → i < n → getD (listed n f) i 0 ≡ f i
+pub getD-listed : (n : ℕ) (f : ℕ → ℕ) (i : ℕ) → i < n → getD (listed n f) i 0 ≡ f i
 unfolding listed
 getD-listed zero f i h = absurd (omega arith)
 getD-listed (suc n) f zero h = refl

@@ -82,7 +82,7 @@ module _ (n : ℕ) (z : Zone) (cs : ℕ → Cpu) (held lost : List Block) (u : U
     pub up : Up n (stored format1 z (p .store)) (upd cs j (answered (cs j) (p .mark) (p .answer))) (handed (cs j .begun) (p .answer) ++ held) lost
     pub fine : Fine p
 
-  latest-is : (m : Mark) (a : Answer) → answered (cs j) m a .latest ≡ recordOf a
+  pub latest-is : (m : Mark) (a : Answer) → answered (cs j) m a .latest ≡ recordOf a
   latest-is m a = go (nextOf a)
     where
       go : (x : Next) → byNext x resting (λ r. record { latest = r; begun = cs j .begun; marks = m ∷ cs j .marks }) .latest ≡ byNext x Record.Finished (λ r. r)

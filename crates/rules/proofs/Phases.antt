@@ -10,29 +10,31 @@ use borrow.Author.Tests.{eq-eqb}
 use Rattle.laws.specs.Tests.{pick, Passes}
 use Rattle.laws.specs.Sum.{sumTo, sumL}
 use Rattle.laws.specs.Words.{zeros}
+use Rattle.laws.specs.Fields.{Fit, join}
 use Rattle.laws.proofs.Tests.{pick-elim, pick-yes, both-and, every-all}
-use Rattle.laws.proofs.Sum.{sumL-append, sum-ext, sum-zero, sum-const}
+use Rattle.laws.proofs.Sum.{sumL-append, sum-ext, sum-zero, sum-const, sum-bound}
 use Rattle.laws.proofs.Parts.{part-at}
 use Rattle.rules.specs.Types.{Block, Header, CpuEntry, Opening, Record, Answer}
 use Rattle.rules.specs.Numbers.{childFrames, childWords, wordBits, mostHuge, mostCpus, format1, Shape, perTree, treesOf, childrenOf, capacity}
 use Rattle.rules.specs.Conversions.{huge, tree}
 use Rattle.rules.specs.Answers.{number}
-use Rattle.rules.specs.Entries.{headerWord, running, clean}
+use Rattle.rules.specs.Entries.{field, headerWord, running, clean, treeLayout, treeWord, cpuWord, cpuSays}
 use Rattle.rules.specs.Lower.{wellFormed, isFlagged, countIn, zeroBits, emptyField, recount}
 use Rattle.rules.specs.Zone.{Zone, headerOf, headerHuge, shaped, shapeOf, Store}
-use Rattle.rules.specs.Plan.{Plan, says}
+use Rattle.rules.specs.Plan.{byCpu, Plan, says}
 use Rattle.rules.specs.Checks.{isMalformed, isClean, isRunning, headerChecks, lengthChecks}
 use Rattle.rules.specs.Open.{opening, childAt, zerosAt, emptyAt, childrenFormed, flagsEmpty, openSound, openZone}
 use Rattle.rules.specs.Reopen.{childAfter, treeAfter}
 use Rattle.rules.specs.Events.{Cpu, resting, taken, unlessCleared, lostBy, lostOf, lostAll}
 use Rattle.rules.specs.Promise.{ownedBy}
-use Rattle.rules.proofs.Shapes.{huge-is, number-in}
-use Rattle.rules.proofs.Layouts.{running-again, clean-again}
+use Rattle.rules.proofs.Shapes.{huge-is, number-in, kids-most}
+use Rattle.rules.proofs.Layouts.{format1-sound, field-join, running-again, clean-again, absent-again}
 use Rattle.rules.proofs.Fields.{zero-bits, recounted}
 use Rattle.rules.proofs.Ways.{guarded-none, allowed}
 use Rattle.rules.proofs.Fresh.{child-at, Accepts, accepts, Good, At, each}
-use Rattle.rules.proofs.Own.{flagOf, freeOf, bitAt, Owned, Survived}
-use Rattle.rules.proofs.Shares.{baseOf, wholeOf, AgreesWith, Agrees}
+use Rattle.rules.proofs.Own.{flagOf, freeOf, bitAt, Owned, owned-same, Survived, survived-owned, free-most}
+use Rattle.rules.proofs.Shares.{baseOf, wholeOf, lowOf, owed, reserves, share, has, AgreesWith, Agrees}
+use Rattle.rules.proofs.Upper.{entryAt, tallyAt, flagAt}
 use Rattle.rules.proofs.Invariant.{weighs, freeTree, Up}
 
 -- ---- what is lost
@@ -183,7 +185,7 @@ module _ (n : ℕ) (from z : Zone) (held lost : List Block) (d : Down n from hel
   abbrev was : ℕ → ℕ
   was i = childAt (shapeOf from) from (huge i)
 
-  from-at : (i : ℕ) → i < n → was i ≡ getD (from .children) i 0
+  pub from-at : (i : ℕ) → i < n → was i ≡ getD (from .children) i 0
   from-at i h = child-at (shapeOf from) (omega arith) from i (rw (down-huge n from held lost d) h)
 
   -- a child as open leaves it
@@ -192,7 +194,7 @@ module _ (n : ℕ) (from z : Zone) (held lost : List Block) (d : Down n from hel
       let f : wellFormed (was i) ≡ true = ap wellFormed (from-at i h) ∙ d .kept .formed i h in
       pick-elim (λ x. (wellFormed x ≡ true) × (isFlagged x ≡ isFlagged (was i))) (isRunning (headerOf from)) (λ e. let k = recounted _ (was i) (zero-bits _ _) f in (k .0, k .1)) (λ e. (f, refl))
 
-  now-child : (i : ℕ) → i < n → (wellFormed (getD (z .children) i 0) ≡ true) × (isFlagged (getD (z .children) i 0) ≡ isFlagged (getD (from .children) i 0))
+  pub now-child : (i : ℕ) → i < n → (wellFormed (getD (z .children) i 0) ≡ true) × (isFlagged (getD (z .children) i 0) ≡ isFlagged (getD (from .children) i 0))
   now-child i h =
       let a = after-child i h in
       let k = each from (accepted n from held lost d) (λ x. (wellFormed x ≡ true) × (isFlagged x ≡ isFlagged (was i))) w i (rw (down-huge n from held lost d) h) (ap wellFormed (from-at i h) ∙ d .kept .formed i h, refl) a in
@@ -212,3 +214,69 @@ module _ (n : ℕ) (from z : Zone) (held lost : List Block) (d : Down n from hel
   pub good-down : (ts es : List ℕ) → length ts ≡ treesOf (shaped n z) → 0 < length es → length es ≤ mostCpus → Down n (record { header = z .header; words = z .words; children = z .children; trees = ts; cpus = es }) held lost
   unfolding treesOf
   good-down ts es a b q = record { some = d .some; small = d .small; header = inl (w .header ∙ ap (λ k. headerWord running k ∷ []) (down-huge n from held lost d)); trees = a; someCpu = b; fewCpus = q; kept = good-kept }
+
+-- nothing is under way
+abbrev pub still : ℕ → Cpu
+still j = resting
+
+pub still-weighs : (w : Block → ℕ) (held lost : List Block) (n : ℕ) → weighs w held lost n still ≡ weighed w held lost
+unfolding sumL
+still-weighs w held lost n = omega (arith, sum-zero n (λ j. sumL w (ownedBy (still j .latest))) (λ j h. refl))
+
+-- an open zone in which nothing is under way: counts and tallies are true, no entry is present
+pub up-still : (n : ℕ) (z : Zone) (held lost : List Block) → 0 < n → n ≤ mostHuge → z .header ≡ headerWord running n ∷ [] → 0 < length (z .cpus) → length (z .cpus) ≤ mostCpus → Kept n z held lost → Counted n z
+    → length (z .trees) ≡ treesOf (shaped n z) → ((t : ℕ) → t < treesOf (shaped n z) → getD (z .trees) t 0 ≡ treeWord 0 (freeTree (shaped n z) (z .children) (z .words) t)) → ((j : ℕ) → j < length (z .cpus) → getD (z .cpus) j 0 ≡ 0)
+    → Up n z still held lost
+unfolding lowOf owed reserves share has byCpu cpuWord treeWord freeTree
+up-still n z held lost a b h c d k q tl tt′ cl = record {
+  some = a;
+  small = b;
+  header = h;
+  someCpu = c;
+  fewCpus = d;
+  lower = owned-same n (z .children) (z .words) _ _ _ (survived-owned n (z .children) (z .words) _ _ k q) _ _ _ (λ x. sum-zero C (λ j. lowOf g (still j .latest) x) (λ j m. low-none x)) (λ f. still-weighs (baseOf f) held lost C) (λ c. still-weighs (wholeOf c) held lost C);
+  upper = record {
+    trees = tl;
+    cpus = refl;
+    tallies = λ t m. omega (arith, tally t m, sum-zero C (λ j. share t (entryAt g (z .cpus) j)) (λ j y. ap (share t) (gone-all j y) ∙ share-none t), sum-zero C (λ j. owed g (still j .latest) t) (λ j y. owed-none t));
+    flags = λ t m. flag t m ∙ omega (arith, sum-zero C (λ j. has t (entryAt g (z .cpus) j)) (λ j y. ap (has t) (gone-all j y) ∙ has-none t), sum-zero C (λ j. reserves (still j .latest) t) (λ j y. reserves-none t));
+    sound = λ j m y. let e = sym (gone-all j m) ∙ y in let x : _≡_ {A = ℕ} 0 1 = cc in omega arith;
+    wanted = λ j m. tt;
+    proper = λ j m. tt;
+  };
+  agrees = λ j. (refl, refl);
+  beyond = λ j m. refl;
+}
+  where
+    g : Shape
+    g = shaped n z
+
+    C : ℕ
+    C = length (z .cpus)
+
+    gone-all : (j : ℕ) → j < C → entryAt g (z .cpus) j ≡ CpuEntry.Absent
+    gone-all j m = ap (cpuSays g) (cl j m) ∙ absent-again g
+
+    low-none : (x : ℕ) → lowOf g Record.Finished x ≡ 0
+    low-none x = refl
+
+    owed-none : (t : ℕ) → owed g Record.Finished t ≡ 0
+    owed-none t = refl
+
+    reserves-none : (t : ℕ) → reserves Record.Finished t ≡ 0
+    reserves-none t = refl
+
+    share-none : (t : ℕ) → share t CpuEntry.Absent ≡ 0
+    share-none t = refl
+
+    has-none : (t : ℕ) → has t CpuEntry.Absent ≡ 0
+    has-none t = refl
+
+    fits : (t : ℕ) → Fit treeLayout (0 ∷ freeTree g (z .children) (z .words) t ∷ [])
+    fits t = (omega arith, (omega (arith, kids-most g (omega arith) t, sum-bound (childrenOf g t) childFrames (λ c. freeOf (z .children) (z .words) (t * perTree g + c)) (λ c m. free-most n (z .children) (z .words) _ _ _ (survived-owned n (z .children) (z .words) _ _ k q) (t * perTree g + c))), tt))
+
+    tally : (t : ℕ) → t < treesOf g → tallyAt (z .trees) t ≡ freeTree g (z .children) (z .words) t
+    tally t m = ap (field treeLayout 1) (tt′ t m) ∙ field-join treeLayout (0 ∷ freeTree g (z .children) (z .words) t ∷ []) 1 (fits t)
+
+    flag : (t : ℕ) → t < treesOf g → flagAt (z .trees) t ≡ 0
+    flag t m = ap (field treeLayout 0) (tt′ t m) ∙ field-join treeLayout (0 ∷ freeTree g (z .children) (z .words) t ∷ []) 0 (fits t)

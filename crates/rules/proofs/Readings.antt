@@ -12,7 +12,7 @@ use borrow.Author.Tests.{le-leb}
 use Rattle.laws.specs.Tests.{pick, Passes}
 use Rattle.laws.specs.Sum.{sumTo, at}
 use Rattle.laws.specs.Fields.{split, width}
-use Rattle.laws.proofs.Tests.{pick-yes}
+use Rattle.laws.proofs.Tests.{pick-yes, pick-no}
 use Rattle.laws.proofs.Sum.{sum-part, sum-bound}
 use Rattle.laws.proofs.Parts.{part-at}
 use Rattle.rules.specs.Types.{Tree, Block, Header, ChildEntry, TreeEntry, CpuEntry, Record}
@@ -23,11 +23,13 @@ use Rattle.rules.specs.Lower.{childSays}
 use Rattle.rules.specs.Zone.{Zone, headerOf, headerHuge, shaped, shapeOf, treeEntryAt, cpuEntryAt, childPart, wordPart}
 use Rattle.rules.specs.Plan.{Plan, Refusal, Made, Tally, Step, cpuEntry, treeEntry, childEntry, wordEntry, byTree, toCpu, toTree, toChild, toWord, carried, guarded}
 use Rattle.rules.specs.Checks.{isMalformed, isClean, headerChecks, lengthChecks, notOpen}
+use Rattle.rules.specs.Ranges.{stepRange}
+use Rattle.rules.specs.Step.{act, step}
 use Rattle.rules.specs.Events.{Cpu}
 use Rattle.rules.proofs.Guards.{NoRefusal, cpu-elim, holds-in}
 use Rattle.rules.proofs.Layouts.{running-again}
 use Rattle.rules.proofs.Shapes.{kids-most}
-use Rattle.rules.proofs.Ways.{allowed}
+use Rattle.rules.proofs.Ways.{guarded-none, allowed}
 use Rattle.rules.proofs.Shares.{share, lowOf, owed, reserves}
 use Rattle.rules.proofs.Own.{free-most, low-clear}
 use Rattle.rules.proofs.Upper.{tallyAt, flagAt, entryAt}
@@ -54,6 +56,15 @@ module _ (n : ℕ) (z : Zone) (cs : ℕ → Cpu) (held lost : List Block) (u : U
   pub is-open : NoRefusal (notOpen z)
   unfolding isMalformed isClean headerHuge
   is-open = rw header-runs (allowed (headerChecks z) (ap length (u .header), tt), (refl, (refl, (allowed (lengthChecks g z) (u .lower .words, (u .lower .children, (u .upper .trees, (u .someCpu, (omega (arith, u .fewCpus), tt))))), tt))))
+
+  -- so a call on an open zone refuses by its own list alone
+  pub open-skips : (l : List Refusal) (p : Plan) → guarded (notOpen z ++ l) p ≡ guarded l p
+  unfolding guarded
+  open-skips l p = pick-no _ _ _ (is-open .0) ∙ (pick-no _ _ _ (is-open .1 .0) ∙ (pick-no _ _ _ (is-open .1 .1 .0) ∙ pick-no _ _ _ (is-open .1 .1 .1 .0)))
+
+  pub step-is : (r : Record) → Passes (stepRange g r) → step z r ≡ carried g z (act g r)
+  unfolding step
+  step-is r p = open-skips _ _ ∙ (guarded-none _ _ (allowed _ (subst (λ g. Passes (stepRange g r)) (sym shape-is) p), tt) ∙ ap (λ g. carried g z (act g r)) shape-is)
 
   -- ---- room
 
