@@ -13,13 +13,12 @@ use Rattle.laws.specs.Words.{zeros}
 use Rattle.laws.proofs.Tests.{pick-elim, pick-yes, pick-no, and-both, every-at}
 use Rattle.laws.proofs.Sum.{sum-const}
 use Rattle.rules.specs.Types.{Block}
-use Rattle.rules.specs.Numbers.{childFrames, childWords, wordBits, Shape, treesOf, childrenOf, capacity}
+use Rattle.rules.specs.Numbers.{childFrames, childWords, wordBits, format1, Shape, treesOf, childrenOf, capacity}
 use Rattle.rules.specs.Answers.{number}
 use Rattle.rules.specs.Entries.{headerWord, clean, treeWord}
 use Rattle.rules.specs.Lower.{freshWord, freshChild, wellFormed, isFlagged, countIn, zeroBits}
 use Rattle.rules.specs.Zone.{Zone, shaped, shapeOf, Store, stored}
 use Rattle.rules.specs.Plan.{Plan, says}
-use Rattle.rules.specs.Step.{after}
 use Rattle.rules.specs.Create.{done, createSteps}
 use Rattle.rules.specs.Open.{childSettled, settled, closeZone}
 use Rattle.rules.specs.Fresh.{fresh, Fitting, creates}
@@ -112,33 +111,22 @@ module _ (n : ℕ) (z : Zone) (cs : ℕ → Cpu) (held lost : List Block) (u : U
       pick-elim (λ k. countIn (getD (z .children) c 0) ≡ k) (isFlagged (getD (z .children) c 0)) (λ b. omega (arith, u .lower .counts c h, pick-yes (isFlagged (getD (z .children) c 0)) 0 (zeroBits (z .words) c) b)) (λ b. eqb-true _ _ (sym (pick-no _ _ _ b) ∙ s))
 
   -- a close is answered Done and its counts are true, or it is refused
-  abbrev Closes : Plan → Type 0
+  abbrev pub Closes : Plan → Type 0
   Closes p = ((p ≡ says (Store.header (headerWord clean n)) done) × Counted n z) ⊎ ((2 ≤ number (p .answer)) × (p .store ≡ Store.nothing))
 
-  closes : Closes (closeZone z)
+  pub closes : Closes (closeZone z)
   unfolding closeZone
   closes = guarded-elim Closes _ _ (inr (omega arith, refl), (inr (omega arith, refl), (inr (omega arith, refl), (inr (omega arith, refl), (inr (omega arith, refl), (inr (omega arith, refl), tt))))))
       (λ m. inl (ap (λ (x : Shape). says (Store.header (headerWord clean (x .huge))) done) (shape-is n z cs held lost u), counted (rw (shape-is n z cs held lost u) at (not-false (settled (shapeOf z) z) (m .1 .1 .1 .1 .1 .0)))))
 
-  pub close-kept : ((number (closeZone z .answer) ≡ 0) × (closeZone z .answer ≡ done)) ⊎ ((2 ≤ number (closeZone z .answer)) × (closeZone z .store ≡ Store.nothing))
-  close-kept = go closes
-    where
-      go : Closes (closeZone z) → ((number (closeZone z .answer) ≡ 0) × (closeZone z .answer ≡ done)) ⊎ ((2 ≤ number (closeZone z .answer)) × (closeZone z .store ≡ Store.nothing))
-      go (inl e) = inl (ap (λ (p : Plan). number (p .answer)) (e .0), ap (λ (p : Plan). p .answer) (e .0))
-      go (inr e) = inr e
-
-  pub close-down : number (closeZone z .answer) ≡ 0 → Down n (after z (closeZone z)) held (lostAll (length (z .cpus)) cs ++ lost)
+  pub close-down : Counted n z → Down n (stored format1 z (Store.header (headerWord clean n))) held (lostAll (length (z .cpus)) cs ++ lost)
   unfolding stored
-  close-down a = go closes
-    where
-      go : Closes (closeZone z) → Down n (after z (closeZone z)) held (lostAll (length (z .cpus)) cs ++ lost)
-      go (inl e) = rw (e .0) (record {
-        some = u .some;
-        small = u .small;
-        header = inr (set-only (z .header) (headerWord clean n) (ap length (u .header)), e .1);
-        trees = u .upper .trees;
-        someCpu = u .someCpu;
-        fewCpus = u .fewCpus;
-        kept = cut-kept n z cs held lost u;
-      })
-      go (inr e) = absurd (omega arith)
+  close-down e = record {
+    some = u .some;
+    small = u .small;
+    header = inr (set-only (z .header) (headerWord clean n) (ap length (u .header)), e);
+    trees = u .upper .trees;
+    someCpu = u .someCpu;
+    fewCpus = u .fewCpus;
+    kept = cut-kept n z cs held lost u;
+  }

@@ -6,7 +6,7 @@ use mathlib.Core.List.{List, [], _∷_, _++_}
 use Prim.Native.Nat.{ℕ, zero, suc, _+_, _*_, _≤_, _<_}
 use native.Mathlib.Omega.{arith}
 use native.Mathlib.Decide.{ℕ-discrete, decLt}
-use lib.ListN.{length, getD}
+use lib.ListN.{length, getD, length-set}
 use Rattle.laws.specs.Tests.{pick, Passes}
 use Rattle.laws.specs.Sum.{sumTo, sumL, upd}
 use Rattle.laws.proofs.Tests.{pick-yes, pick-no}
@@ -14,9 +14,10 @@ use Rattle.laws.proofs.Sum.{sum-ext, sum-upd, sumL-append, upd-at, upd-other, m
 use Rattle.rules.specs.Types.{Block, Header, Taking, Giving, Opening, Record, Answer}
 use Rattle.rules.specs.Numbers.{mostCpus, format1, Shape, perTree, treesOf, childrenOf}
 use Rattle.rules.specs.Conversions.{huge}
+use Rattle.rules.specs.Answers.{recordOf}
 use Rattle.rules.specs.Entries.{headerWord, running, clean, treeWord}
 use Rattle.rules.specs.Lower.{isFlagged, countIn, zeroBits, recount}
-use Rattle.rules.specs.Zone.{Zone, headerOf, headerHuge, shaped, shapeOf}
+use Rattle.rules.specs.Zone.{Zone, headerOf, headerHuge, shaped, shapeOf, Store, stored}
 use Rattle.rules.specs.Plan.{Plan}
 use Rattle.rules.specs.Checks.{isRunning}
 use Rattle.rules.specs.Ranges.{stepRange}
@@ -24,7 +25,7 @@ use Rattle.rules.specs.Step.{act, step, after}
 use Rattle.rules.specs.Create.{done}
 use Rattle.rules.specs.Open.{childAt, openZone, openStep}
 use Rattle.rules.specs.Reopen.{childAfter, treeAfter, cutTo}
-use Rattle.rules.specs.Events.{idle, Cpu, resting, lostAll}
+use Rattle.rules.specs.Events.{idle, Cpu, resting, lostOf, lostAll, handed}
 use Rattle.rules.specs.Promise.{ownedBy}
 use Rattle.rules.proofs.Shapes.{child-in, some-tree}
 use Rattle.rules.proofs.Layouts.{format1-sound, clean-again}
@@ -33,11 +34,11 @@ use Rattle.rules.proofs.Fresh.{header-is, child-at, Accepts, Good, At, 
 use Rattle.rules.proofs.Own.{freeOf, owned-same}
 use Rattle.rules.proofs.Shares.{baseOf, wholeOf, lowOf, owed, reserves, Wanted, want, Proper, AgreesWith, Agrees}
 use Rattle.rules.proofs.Upper.{entryAt, record-changed}
-use Rattle.rules.proofs.Invariant.{weighs, freeTree, Up, Keeps}
+use Rattle.rules.proofs.Invariant.{weighs, freeTree, Up, answered, latest-is, Keeps}
 use Rattle.rules.proofs.Readings.{step-is}
 use Rattle.rules.proofs.Gets.{get-kept}
 use Rattle.rules.proofs.Puts.{put-kept}
-use Rattle.rules.proofs.Phases.{Counted, Down, Op, still, cut-kept, zeros-at, down-huge, accepted, from-at, now-child, good-kept, good-down, up-still}
+use Rattle.rules.proofs.Phases.{lost-told, lost-weighs, weighed, kept-same, Counted, Down, Op, still, cut-kept, zeros-at, down-huge, accepted, from-at, now-child, good-kept, good-down, up-still}
 
 -- ---- an open that has finished
 
@@ -110,6 +111,12 @@ later-goes n z r held lost o =
     subst (λ r. Goes n (after z (openStep z r)) (openStep z r .answer) held lost) (sym (o .is))
     (goes n (o .from) held lost (o .down) (o .left) _ _ (next (o .from) (accepted n (o .from) held lost (o .down)) (o .left) (o .stage) z (o .at)))
 
+pub op-huge : (n : ℕ) (z : Zone) (r : Record) (held lost : List Block) → Op n z r held lost → headerHuge (headerOf z) ≡ n
+unfolding headerHuge
+op-huge n z r held lost o =
+    let k = at-good (o .from) (accepted n (o .from) held lost (o .down)) (suc (o .left)) (o .stage) z (o .at) in
+    ap headerHuge (header-is z n (o .down .some, o .down .small) (k .3 .header ∙ ap (λ i. headerWord running i ∷ []) (down-huge n (o .from) held lost (o .down))))
+
 -- ---- cuts
 
 pub cut-down : (n : ℕ) (z : Zone) (cs : ℕ → Cpu) (held lost : List Block) → Up n z cs held lost → (ts es : List ℕ) → length ts ≡ treesOf (shaped n z) → 0 < length es → length es ≤ mostCpus
@@ -160,6 +167,16 @@ begun-up n z cs held lost u j l e c held′ a p low o v w b = record {
 
 -- ---- steps
 
+-- a store leaves as many CPU entries
+pub as-many : (z : Zone) (s : Store) → length (stored format1 z s .cpus) ≡ length (z .cpus)
+unfolding stored
+as-many z Store.nothing = refl
+as-many z (Store.header v) = refl
+as-many z (Store.word i v) = refl
+as-many z (Store.child i v) = refl
+as-many z (Store.tree i r k) = refl
+as-many z (Store.cpu j e) = length-set (z .cpus) j _
+
 finished : (c : Cpu) → c .latest ≡ Record.Finished → c .begun ≡ idle → c .marks ≡ [] → c ≡ resting
 finished c a b d =
     ap (λ r. record { latest = r; begun = c .begun; marks = c .marks }) a ∙ (ap (λ x. record { latest = Record.Finished; begun = x; marks = c .marks }) b ∙ ap (λ m. record { latest = Record.Finished; begun = idle; marks = m }) d)
@@ -197,3 +214,44 @@ module _ (n : ℕ) (z : Zone) (cs : ℕ → Cpu) (held lost : List Block) (u : U
         go (Record.Put i s) e = put-step i s (subst (Proper (shaped n z) j) e (u .upper .proper j l) .0) e
         go (Record.Create y) e = absurd (subst (Proper (shaped n z) j) e (u .upper .proper j l))
         go (Record.Open y) e = absurd (subst (Proper (shaped n z) j) e (u .upper .proper j l))
+
+    -- a cut after a step's store and before its answer: what the step would hand out is lost
+    pub step-cut : (r : Record) (e : cs j .latest ≡ r) (p : Plan) → Keeps n z cs held lost u j l r e p → (ts es : List ℕ) → length ts ≡ treesOf (shaped n z) → 0 < length es → length es ≤ mostCpus
+        → Down n (cutTo (stored format1 z (p .store)) ts es) held (lostAll (length (stored format1 z (p .store) .cpus)) (upd cs j (record { latest = cs j .latest; begun = cs j .begun; marks = p .mark ∷ cs j .marks })) ++ lost)
+    unfolding treesOf
+    step-cut r e p k ts es a b c =
+        let d = cut-down n z′ (upd cs j c′) _ lost (k .up) ts es a b c in
+        record { some = d .some; small = d .small; header = d .header; trees = d .trees; someCpu = d .someCpu; fewCpus = d .fewCpus; kept = kept-same n (cutTo z′ ts es) (cutTo z′ ts es) _ _ _ _ refl refl weigh (d .kept) }
+      where
+        z′ : Zone
+        z′ = stored format1 z (p .store)
+
+        C : ℕ
+        C = length (z′ .cpus)
+
+        c′ : Cpu
+        c′ = answered (cs j) (p .mark) (p .answer)
+
+        m : Cpu
+        m = record { latest = cs j .latest; begun = cs j .begun; marks = p .mark ∷ cs j .marks }
+
+        hs : List Block
+        hs = handed (cs j .begun) (p .answer)
+
+        in-now : j < C
+        in-now = subst (λ q. j < q) (sym (as-many z (p .store))) l
+
+        weigh : (w : Block → ℕ) → weighed w held (lostAll C (upd cs j m) ++ lost) ≡ weighed w (hs ++ held) (lostAll C (upd cs j c′) ++ lost)
+        weigh w = omega (
+          arith,
+          sumL-append w (lostAll C (upd cs j m)) lost,
+          sumL-append w (lostAll C (upd cs j c′)) lost,
+          lost-weighs w C (upd cs j m),
+          lost-weighs w C (upd cs j c′),
+          sum-upd (λ (y : Cpu). sumL w (lostOf y)) C j cs (cs j) m in-now refl,
+          sum-upd (λ (y : Cpu). sumL w (lostOf y)) C j cs (cs j) c′ in-now refl,
+          ap (sumL w) (k .fine .lostly),
+          sumL-append w hs (ownedBy (recordOf (p .answer))),
+          ap (sumL w) (lost-told c′ (k .fine .agrees) ∙ ap ownedBy (latest-is n z cs held lost u j l r e (p .mark) (p .answer))),
+          sumL-append w hs held,
+        )

@@ -24,3 +24,4 @@ pub mod Layouts
 pub mod Events
 pub mod Promise
 pub mod Reopen
+pub mod Exhibit
