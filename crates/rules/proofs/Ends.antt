@@ -36,7 +36,7 @@ use Rattle.rules.proofs.Phases.{Kept, Counted, Down, cut-kept, zeros-at
 
 -- ---- create
 
-length-replicate : (n v : ℕ) → length (replicate n v) ≡ n
+pub length-replicate : (n v : ℕ) → length (replicate n v) ≡ n
 length-replicate zero v = refl
 length-replicate (suc n) v = ap suc (length-replicate n v)
 

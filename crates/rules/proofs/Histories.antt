@@ -55,7 +55,7 @@ phase-is s p e = ap (λ q. made (s .zone) (s .cpus) q (s .held) (s .lost)) e
 
 -- ---- lists of blocks
 
-inside-at : (n : ℕ) (l : List Block) (i : ℕ) → i < length l → AllIn n l → BlockIn n (getD l i (Block.Base (frame 0)))
+pub inside-at : (n : ℕ) (l : List Block) (i : ℕ) → i < length l → AllIn n l → BlockIn n (getD l i (Block.Base (frame 0)))
 inside-at n [] i h a = absurd (omega arith)
 inside-at n (b ∷ l) zero h a = a .0
 inside-at n (b ∷ l) (suc i) h a = inside-at n l i (omega arith) (a .1)
@@ -94,7 +94,7 @@ block-passes n z (Block.Whole x) h = (h, tt)
 -- ---- answers
 
 -- an answer is Done, or under way, or another
-answer-elim : {A : Type 0} (Q : A → Type 0) (a : Answer) (d : ℕ → A) (u : Record → A) (e : A) → ((f : Frame) → a ≡ Answer.Done f → Q (d (f .0))) → ((r : Record) → a ≡ Answer.UnderWay r → Q (u r)) → (2 ≤ number a → Q e) → Q (byAnswer a d u e)
+pub answer-elim : {A : Type 0} (Q : A → Type 0) (a : Answer) (d : ℕ → A) (u : Record → A) (e : A) → ((f : Frame) → a ≡ Answer.Done f → Q (d (f .0))) → ((r : Record) → a ≡ Answer.UnderWay r → Q (u r)) → (2 ≤ number a → Q e) → Q (byAnswer a d u e)
 answer-elim Q (Answer.Done f) d u e x y z = x f refl
 answer-elim Q (Answer.UnderWay r) d u e x y z = y r refl
 answer-elim Q Answer.NoRoom d u e x y z = z (omega arith)
@@ -271,14 +271,14 @@ module _ (n : ℕ) (z : Zone) (held lost : List Block) (a : AllIn n held) where
 -- the phase of an admitted call
 module _ (n : ℕ) (s : State) (h : Holds n s) where
   -- what holds of a state in phase p holds of s
-  at-phase : (p : Phase) (e : s .phase ≡ p) (Q : State → Type 0) → Q (made (s .zone) (s .cpus) p (s .held) (s .lost)) → Q s
+  pub at-phase : (p : Phase) (e : s .phase ≡ p) (Q : State → Type 0) → Q (made (s .zone) (s .cpus) p (s .held) (s .lost)) → Q s
   at-phase p e Q x = subst Q (sym (phase-is s p e)) x
 
-  in-phase : (p : Phase) → s .phase ≡ p → Phased n s p
+  pub in-phase : (p : Phase) → s .phase ≡ p → Phased n s p
   in-phase p e = subst (Phased n s) e (h .phased)
 
   -- outside an open zone nothing is under way
-  at-still : (p : Phase) (e : s .phase ≡ p) → s .cpus ≡ still → (Q : State → Type 0) → Q (made (s .zone) still p (s .held) (s .lost)) → Q s
+  pub at-still : (p : Phase) (e : s .phase ≡ p) → s .cpus ≡ still → (Q : State → Type 0) → Q (made (s .zone) still p (s .held) (s .lost)) → Q s
   at-still p e q Q x = at-phase p e Q (subst (λ c. Q (made (s .zone) c p (s .held) (s .lost))) (sym q) x)
 
   called : (c : Call) → Called s c → Holds n (next s (call c))

@@ -213,24 +213,6 @@ module _ (n : ℕ) (cs ws : List ℕ) (low base whole : ℕ → ℕ) (o : Owned 
   unfolding freeOf
   free-most c = pick-elim (λ y. y ≤ childFrames) (isFlagged (getD cs c 0)) (λ e. omega arith) (λ e. zero-bits ws c)
 
-  -- a frame has one owner at most; a taken frame is an owned one
-  pub taken-owned : (f : ℕ) → f < childFrames * n → pick (isFlagged (getD cs (f / childFrames) 0)) 1 (bitAt ws f) ≡ base f + whole (f / childFrames)
-  taken-owned f h = elim (child (f / childFrames) (omega arith)) [
-    | counted k e p q ↦ pick-no _ 1 (bitAt ws f) (counts-entry _ k e .1) ∙ omega (arith, o .bits f h)
-    | taken e p q r ↦ pick-yes _ 1 (bitAt ws f) (flagged-entry _ e .1) ∙ omega (arith, o .bits f h, empty-bit ws f q)
-  ]
-
-  pub owned-once : (f : ℕ) → f < childFrames * n → base f + whole (f / childFrames) ≤ 1
-  owned-once f h = rw (← (taken-owned f h)) (pick-elim (λ y. y ≤ 1) (isFlagged (getD cs (f / childFrames) 0)) (λ e. omega arith) (λ e. bit-le _ _))
-
-  -- a child's free frames are those that nobody owns
-  pub free-unowned : (c : ℕ) → c < n → freeOf cs ws c ≡ sumTo childFrames (λ i. 1 - (base (childFrames * c + i) + whole c))
-  unfolding freeOf
-  free-unowned c h = elim (child c h) [
-    | counted k e p q ↦ pick-no _ 0 (zeroBits ws c) (counts-entry _ k e .1) ∙ (zero-frames ws c ∙ sum-ext childFrames _ _ (λ i m. omega (arith, o .bits (childFrames * c + i) (omega arith))))
-    | taken e p q r ↦ pick-yes _ 0 (zeroBits ws c) (flagged-entry _ e .1) ∙ sym (sum-zero childFrames _ (λ i m. omega arith))
-  ]
-
   -- a flagged child has nobody under way, and a child with something under way is not flagged
   pub low-clear : (c : ℕ) → c < n → 0 < low c → (k : ℕ) × (childSays (getD cs c 0) ≡ ChildEntry.Counts k) × (k + low c ≡ freeOf cs ws c)
   unfolding freeOf
@@ -258,30 +240,28 @@ pub record Survived (n : ℕ) (cs ws : List ℕ) (base whole : ℕ → ℕ) : Ty
   pub bits : (f : ℕ) → f < childFrames * n → bitAt ws f ≡ base f
   pub flags : (c : ℕ) → c < n → flagOf cs c ≡ whole c
 
--- a child recounted: only counts change, and this one's is true
 module _ (n : ℕ) (cs ws : List ℕ) (base whole : ℕ → ℕ) (o : Survived n cs ws base whole) where
-  pub recount-survived : (c : ℕ) → c < n → Survived n (set cs c (recount (zeroBits ws c) (getD cs c 0))) ws base whole
-  recount-survived c h =
-      let v : ℕ = recount (zeroBits ws c) (getD cs c 0) in
-      let r = recounted _ _ (zero-bits ws c) (o .formed c h) in
-      let l : c < length cs = omega (arith, o .children) in
-      let f : (x : ℕ) → x < n → flagOf (set cs c v) x ≡ flagOf cs x = all-set (λ x y. pick (isFlagged y) 1 0 ≡ flagOf cs x) cs c v n l (rw (r .1)) (λ x m q. refl) in
-      record {
-        children = length-set cs c v ∙ o .children;
-        words = o .words;
-        formed = all-set (λ x y. wellFormed y ≡ true) cs c v n l (r .0) (λ x m q. o .formed x m);
-        empty = λ x m e. o .empty x m (sym (f x m) ∙ e);
-        bits = o .bits;
-        flags = λ x m. f x m ∙ o .flags x m;
-      }
+  -- a frame has one owner at most; a taken frame is an owned one
+  pub taken-owned : (f : ℕ) → f < childFrames * n → pick (isFlagged (getD cs (f / childFrames) 0)) 1 (bitAt ws f) ≡ base f + whole (f / childFrames)
+  taken-owned f h =
+      let c : ℕ = f / childFrames in
+      let k : c < n = omega arith in
+      pick-elim (λ y. y ≡ base f + whole c) (isFlagged (getD cs c 0))
+      (λ e. let g : flagOf cs c ≡ 1 = pick-yes _ 1 0 e in omega (arith, g, o .flags c k, o .bits f h, empty-bit ws f (o .empty c k g)))
+      (λ e. let g : flagOf cs c ≡ 0 = pick-no _ 1 0 e in omega (arith, g, o .flags c k, o .bits f h))
 
-  pub recount-true : (c : ℕ) → c < n → (x : ℕ) → x < n
-      → (c ≡ x → countIn (getD (set cs c (recount (zeroBits ws c) (getD cs c 0))) x 0) ≡ freeOf (set cs c (recount (zeroBits ws c) (getD cs c 0))) ws x)
-      × (c ≢ x → getD (set cs c (recount (zeroBits ws c) (getD cs c 0))) x 0 ≡ getD cs x 0)
+  pub owned-once : (f : ℕ) → f < childFrames * n → base f + whole (f / childFrames) ≤ 1
+  owned-once f h = rw (← (taken-owned f h)) (pick-elim (λ y. y ≤ 1) (isFlagged (getD cs (f / childFrames) 0)) (λ e. omega arith) (λ e. bit-le _ _))
+
+  -- a child's free frames are those that nobody owns
+  pub free-unowned : (c : ℕ) → c < n → freeOf cs ws c ≡ sumTo childFrames (λ i. 1 - (base (childFrames * c + i) + whole c))
   unfolding freeOf
-  recount-true c h x l =
-      let r = recounted _ _ (zero-bits ws c) (o .formed c h) in
-      (λ e. rw (← e, getD-set-same cs c _ 0 (omega (arith, o .children)), r .1) (r .2), λ m. getD-set-other cs c x _ 0 (λ e. m (sym e)))
+  free-unowned c h = pick-elim (λ y. y ≡ sumTo childFrames (λ i. 1 - (base (childFrames * c + i) + whole c))) (isFlagged (getD cs c 0))
+      (λ e. let g : flagOf cs c ≡ 1 = pick-yes _ 1 0 e in sym (sum-zero childFrames (λ i. 1 - (base (childFrames * c + i) + whole c)) (λ i m. omega (arith, g, o .flags c h))))
+      (λ e. let g : flagOf cs c ≡ 0 = pick-no _ 1 0 e in zero-frames ws c ∙ sum-ext childFrames _ _ (λ i m. omega (arith, g, o .flags c h, o .bits (childFrames * c + i) (omega arith))))
 
   pub survived-owned : ((c : ℕ) → c < n → countIn (getD cs c 0) ≡ freeOf cs ws c) → Owned n cs ws (λ c. 0) base whole
   survived-owned h = record { children = o .children; words = o .words; formed = o .formed; counts = λ c l. omega (arith, h c l); empty = o .empty; bits = o .bits; flags = o .flags }
+
+pub owned-survived : (n : ℕ) (cs ws : List ℕ) (low base whole : ℕ → ℕ) → Owned n cs ws low base whole → Survived n cs ws base whole
+owned-survived n cs ws low base whole o = record { children = o .children; words = o .words; formed = o .formed; empty = o .empty; bits = o .bits; flags = o .flags }

@@ -33,7 +33,7 @@ use Rattle.rules.proofs.Shapes.{tree-in, number-in, huge-is}
 use Rattle.rules.proofs.Layouts.{format1-sound, holds-again}
 use Rattle.rules.proofs.Lower.{give-counts, clear-flagged, clear-run}
 use Rattle.rules.proofs.Stages.{block-huge}
-use Rattle.rules.proofs.Own.{base-bit, whole-flag, owned-once}
+use Rattle.rules.proofs.Own.{base-bit, whole-flag, owned-once, owned-survived}
 use Rattle.rules.proofs.Shares.{baseOf, wholeOf, share, has, lowOf, owed, reserves, Wanted, want, Proper, AgreesWith, Agrees}
 use Rattle.rules.proofs.Upper.{entryAt, tallyAt, flagAt}
 use Rattle.rules.proofs.Invariant.{weighs, Up, Fine, Keeps, looked, own-kept, tree-kept, count-kept, unflag-kept, bits-unkept}
@@ -166,7 +166,7 @@ module _ (n : ℕ) (z : Zone) (cs : ℕ → Cpu) (held lost : List Block) (u : U
       let same : huge i ≡ h = ap huge (q .2) in
       let inside : i < n = rw (q .2) (block-huge g b (proper s e)) in
       let x : ℕ = getD (z .children) i 0 in
-      let once = owned-once n (z .children) (z .words) _ _ _ (u .lower) (childFrames * i) (omega arith) in
+      let once = owned-once n (z .children) (z .words) _ _ (owned-survived n (z .children) (z .words) _ _ _ (u .lower)) (childFrames * i) (omega arith) in
       let one : weighs (wholeOf i) held lost (length (z .cpus)) cs ≡ 1 = omega (arith, weighs-own s e (wholeOf i), ap (λ k. at k 1 i) (q .2), at-same i 1, rw (whole-of i) at once) in
       let f : childSays x ≡ ChildEntry.Flagged = whole-flag n (z .children) (z .words) _ _ _ (u .lower) i inside one in
       read-child n z cs held lost u (Kept s e) t c _ (q .1) (rw (clear-flagged x f, given-plan g t c (countWord childFrames) (put g j (Giving.ToEntry b)) (clears b))
@@ -193,7 +193,7 @@ module _ (n : ℕ) (z : Zone) (cs : ℕ → Cpu) (held lost : List Block) (u : U
       let word-of : f .0 / wordBits ≡ childWords * m + i = omega (arith, q .2) in
       let same : frame (m * childFrames + i * wordBits + k) ≡ f = ap frame at-frame in
       let x : ℕ = getD (z .words) (childWords * m + i) 0 in
-      let once = owned-once n (z .children) (z .words) _ _ _ (u .lower) (f .0) inside in
+      let once = owned-once n (z .children) (z .words) _ _ (owned-survived n (z .children) (z .words) _ _ _ (u .lower)) (f .0) inside in
       let one : weighs (baseOf (f .0)) held lost (length (z .cpus)) cs ≡ 1 = omega (arith, weighs-own s e (baseOf (f .0)), run-in 1 (f .0) (f .0) (omega arith) (omega arith), once) in
       let on : bits 1 k x ≡ 1 = subst (λ y. bit k (getD (z .words) y 0) ≡ 1) word-of (base-bit n (z .children) (z .words) _ _ _ (u .lower) (f .0) inside one) in
       read-word n z cs held lost u (Kept s e) t _ _ (omega (arith, q .1)) (subst (λ y. Kept s e (toWord g t (childWords * c + i) (onGave (clearRun 1 k (getD (z .words) y 0)) (put g j (Giving.Raise f)) (clears b)))) (sym at-word)

@@ -94,7 +94,7 @@ module _ (n : ℕ) (z : Zone) (cs : ℕ → Cpu) (held lost : List Block) (u : U
   unfolding carried
   read-cpu Q i a f h x y = cpu-elim Q (cpuEntryAt g z i) (λ e. absurd (u .upper .sound i h e)) x (λ t s k e. y t s k e (holds-in g (getD (z .cpus) i 0) t s k e))
 
-  tree-says : (t : Tree) → t .0 < treesOf g → treeEntryAt g z t ≡ TreeEntry.Counts (flagAt (z .trees) (t .0)) (tallyAt (z .trees) (t .0))
+  pub tree-says : (t : Tree) → t .0 < treesOf g → treeEntryAt g z t ≡ TreeEntry.Counts (flagAt (z .trees) (t .0)) (tallyAt (z .trees) (t .0))
   unfolding treeSays
   tree-says t h = pick-yes _ _ _ (le-leb (tallyAt (z .trees) (t .0)) (capacity g (t .0)) (omega (arith, room (t .0) 0 0 h (u .someCpu) (u .someCpu))))
 

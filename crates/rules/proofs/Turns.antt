@@ -38,7 +38,7 @@ use Rattle.rules.proofs.Invariant.{weighs, freeTree, Up, answered, late
 use Rattle.rules.proofs.Readings.{step-is}
 use Rattle.rules.proofs.Gets.{get-kept}
 use Rattle.rules.proofs.Puts.{put-kept}
-use Rattle.rules.proofs.Phases.{lost-told, lost-weighs, weighed, kept-same, Counted, Down, Op, still, cut-kept, zeros-at, down-huge, accepted, from-at, now-child, good-kept, good-down, up-still}
+use Rattle.rules.proofs.Phases.{lost-told, lost-weighs, weighed, Kept, kept-same, Counted, Down, Op, still, cut-kept, zeros-at, down-huge, accepted, from-at, now-child, good-kept, good-down, up-still}
 
 -- ---- an open that has finished
 
@@ -117,6 +117,11 @@ op-huge n z r held lost o =
     let k = at-good (o .from) (accepted n (o .from) held lost (o .down)) (suc (o .left)) (o .stage) z (o .at) in
     ap headerHuge (header-is z n (o .down .some, o .down .small) (k .3 .header ∙ ap (λ i. headerWord running i ∷ []) (down-huge n (o .from) held lost (o .down))))
 
+pub op-kept : (n : ℕ) (z : Zone) (r : Record) (held lost : List Block) → Op n z r held lost → Kept n z held lost
+op-kept n z r held lost o =
+    let k = at-good (o .from) (accepted n (o .from) held lost (o .down)) (suc (o .left)) (o .stage) z (o .at) in
+    good-kept n (o .from) z held lost (o .down) (k .0) (k .1) (k .2) (k .3)
+
 -- ---- cuts
 
 pub cut-down : (n : ℕ) (z : Zone) (cs : ℕ → Cpu) (held lost : List Block) → Up n z cs held lost → (ts es : List ℕ) → length ts ≡ treesOf (shaped n z) → 0 < length es → length es ≤ mostCpus
@@ -182,8 +187,8 @@ finished c a b d =
     ap (λ r. record { latest = r; begun = c .begun; marks = c .marks }) a ∙ (ap (λ x. record { latest = Record.Finished; begun = x; marks = c .marks }) b ∙ ap (λ m. record { latest = Record.Finished; begun = idle; marks = m }) d)
 
 module _ (n : ℕ) (z : Zone) (cs : ℕ → Cpu) (held lost : List Block) (u : Up n z cs held lost) (j : ℕ) where
-  abbrev Kept : (l : j < length (z .cpus)) (r : Record) (e : cs j .latest ≡ r) → Type 0
-  Kept l r e = Keeps n z cs held lost u j l r e (step z r)
+  abbrev Keeping : (l : j < length (z .cpus)) (r : Record) (e : cs j .latest ≡ r) → Type 0
+  Keeping l r e = Keeps n z cs held lost u j l r e (step z r)
 
   -- only a CPU of the table has anything under way
   pub in-table : (cs j ≡ resting → ⊥) → j < length (z .cpus)
@@ -193,22 +198,22 @@ module _ (n : ℕ) (z : Zone) (cs : ℕ → Cpu) (held lost : List Block) (u : U
   ]
 
   module _ (l : j < length (z .cpus)) where
-    get-step : (i : ℕ) (s : Taking) → i ≡ j → (e : cs j .latest ≡ Record.Get i s) → Kept l (Record.Get i s) e
+    get-step : (i : ℕ) (s : Taking) → i ≡ j → (e : cs j .latest ≡ Record.Get i s) → Keeping l (Record.Get i s) e
     unfolding act stepRange
-    get-step i s p = subst (λ i. (e : cs j .latest ≡ Record.Get i s) → Kept l (Record.Get i s) e) (sym p) (λ e.
+    get-step i s p = subst (λ i. (e : cs j .latest ≡ Record.Get i s) → Keeping l (Record.Get i s) e) (sym p) (λ e.
         let q : Proper (shaped n z) j (Record.Get j s) = subst (Proper (shaped n z) j) e (u .upper .proper j l) in
         subst (Keeps n z cs held lost u j l (Record.Get j s) e) (sym (step-is n z cs held lost u (Record.Get j s) (l, q .1))) (get-kept n z cs held lost u j l s e))
 
-    put-step : (i : ℕ) (s : Giving) → i ≡ j → (e : cs j .latest ≡ Record.Put i s) → Kept l (Record.Put i s) e
+    put-step : (i : ℕ) (s : Giving) → i ≡ j → (e : cs j .latest ≡ Record.Put i s) → Keeping l (Record.Put i s) e
     unfolding act stepRange
-    put-step i s p = subst (λ i. (e : cs j .latest ≡ Record.Put i s) → Kept l (Record.Put i s) e) (sym p) (λ e.
+    put-step i s p = subst (λ i. (e : cs j .latest ≡ Record.Put i s) → Keeping l (Record.Put i s) e) (sym p) (λ e.
         let q : Proper (shaped n z) j (Record.Put j s) = subst (Proper (shaped n z) j) e (u .upper .proper j l) in
         subst (Keeps n z cs held lost u j l (Record.Put j s) e) (sym (step-is n z cs held lost u (Record.Put j s) (l, q .1))) (put-kept n z cs held lost u j l s e))
 
-    pub stepped : (cs j ≡ resting → ⊥) → Kept l (cs j .latest) refl
+    pub stepped : (cs j ≡ resting → ⊥) → Keeping l (cs j .latest) refl
     stepped b = go (cs j .latest) refl
       where
-        go : (r : Record) (e : cs j .latest ≡ r) → Kept l r e
+        go : (r : Record) (e : cs j .latest ≡ r) → Keeping l r e
         go Record.Finished e = let a = subst (AgreesWith (cs j .begun) (cs j .marks)) e (u .agrees j) in absurd (b (finished (cs j) e (a .0) (a .1)))
         go (Record.Get i s) e = get-step i s (subst (Proper (shaped n z) j) e (u .upper .proper j l) .0) e
         go (Record.Put i s) e = put-step i s (subst (Proper (shaped n z) j) e (u .upper .proper j l) .0) e

@@ -9,14 +9,15 @@ use Rattle.laws.specs.Tests.{pick}
 use Rattle.laws.specs.Sum.{sumTo, sumL, run}
 use Rattle.laws.specs.Words.{bit}
 use Rattle.rules.specs.Types.{Block, Taking, Giving, Record}
-use Rattle.rules.specs.Numbers.{childFrames, wordBits, perTree, treesOf, capacity}
+use Rattle.rules.specs.Numbers.{childFrames, wordBits, mostHuge, mostCpus, perTree, treesOf, capacity}
 use Rattle.rules.specs.Conversions.{huge, tree}
 use Rattle.rules.specs.Blocks.{sizeOf, firstOf}
 use Rattle.rules.specs.Answers.{number}
 use Rattle.rules.specs.Lower.{isFlagged, countIn}
 use Rattle.rules.specs.Zone.{Zone, shapeOf}
 use Rattle.rules.specs.Open.{childAt, treeCount, cpuCount}
-use Rattle.rules.specs.Events.{Begun, idle, getting, putting, Cpu, lostOf, ready, State, cpusOf, heldAt, get, put, stepOf, close, openFirst, openLater, planned, call, cut, cutIn, next, Idle, Called, Admitted, Reach}
+use Rattle.rules.specs.Fresh.{Fitting}
+use Rattle.rules.specs.Events.{Begun, idle, getting, putting, Cpu, lostOf, ready, State, cpusOf, heldAt, get, put, stepOf, close, openFirst, openLater, planned, Event, call, next, Idle, Called, Admitted, Reach}
 
 -- ---- frames, each counted as 1 or 0
 
@@ -92,9 +93,11 @@ pub record Promise (s : State) : Type 0 where
   -- with nothing under way, close answers Done
   pub closes : AtRest s → number (planned s close .answer) ≡ 0
   -- an event adds at most one lost block per CPU; only a cut or a close answered Done adds any
-  pub few : (e : _) → Admitted s e → length (next s e .lost) ≤ length (s .lost) + cpusOf s
+  pub few : (e : Event) → Admitted s e → length (next s e .lost) ≤ length (s .lost) + cpusOf s
   -- the latest record tells the same of lost blocks
   pub told : (j : ℕ) → lostOf (s .cpus j) ≡ ownedBy (s .cpus j .latest)
 
 pub record Demand3 : Type 0 where
+  -- a history can begin at every size, with every number of CPUs
+  pub starts : (n c : ℕ) → 0 < n → n ≤ mostHuge → 0 < c → c ≤ mostCpus → (z : Zone) × Fitting n z × (length (z .cpus) ≡ c)
   pub holds : (n : ℕ) (s : State) → Reach n s → Promise s
