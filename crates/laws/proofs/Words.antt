@@ -1,20 +1,18 @@
 -- A word's bits: a run of s bits set and cleared, the count of zero bits, and the lowest run that is free. Stated over the run's size.
-use mathlib.Core.Path.{_≡_, refl, sym, ap, _∙_}
-use mathlib.Core.Bool.{Bool, true, false}
+use mathlib.Core.Path.{_≡_, sym, ap, _∙_}
 use mathlib.Core.Logic.{_≢_}
 use Prim.Native.Nat.{ℕ, zero, suc, _+_, _-_, _*_, _/_, _%_, _^_, _≤_, _<_}
 use native.Mathlib.Omega.{arith}
-use native.Mathlib.Nat.{pow-suc, div-one, mod-lt, mod-one, mul-suc, mul-zero, mod-eq-of-lt, div-eq-of-lt, mul-le-mul-right, one-mul, add-zero, add-suc, suc-add}
+use native.Mathlib.Nat.{pow-suc, div-one, mod-lt, mod-one, mul-suc, mul-zero, add-zero, add-suc, suc-add}
 use native.Mathlib.Numerals.{one-add, add-one}
-use lib.Dec.{eqb, lit<}
-use lib.Arith.{lt-one, digits-div, digits-mod}
-use lib.Pow.{pow-pos, pow-add, shr-shr, split, high, low, mod-pow-add, field}
-use borrow.Author.Tests.{eqb-true, eqb-false, eq-eqb, ne-eqb}
-use Rattle.laws.specs.Tests.{pick}
-use Rattle.laws.specs.Sum.{sumTo, run}
+use lib.Dec.{eqb}
+use lib.Arith.{digits-mod}
+use lib.Pow.{pow-pos, shr-shr, split, high, mod-pow-add}
+use borrow.Author.Tests.{eqb-true, eqb-false}
+use Rattle.laws.specs.Sum.{run}
 use Rattle.laws.specs.Words.{bit, zeros, ones, bits, lowest}
-use Rattle.laws.proofs.Tests.{pick-elim, pick-yes, pick-no}
-use Rattle.laws.proofs.Sum.{Ran, ran, inside, outside, run-in, run-below, run-above, run-le, run-shift, sum-add, sum-run, sum-bound, sum-const, sum-full}
+use Rattle.laws.proofs.Tests.{pick-elim}
+use Rattle.laws.proofs.Sum.{ran, inside, outside, run-in, run-below, run-above, run-shift, sum-add, sum-run, sum-bound}
 
 -- ---- one digit
 

@@ -1,27 +1,27 @@
 -- The step bounds, by the measure that falls.
-use mathlib.Core.Path.{_≡_, refl, sym, ap, _∙_, subst}
-use mathlib.Core.Bool.{Bool, true, false, not}
-use mathlib.Core.List.{List, [], _∷_, _++_}
-use Prim.Native.Nat.{ℕ, zero, suc, pred, _+_, _-_, _*_, _≤_, _<_}
+use mathlib.Core.Path.{_≡_, refl, ap, subst}
+use mathlib.Core.Bool.{false}
+use mathlib.Core.List.{[]}
+use Prim.Native.Nat.{ℕ, zero, suc, _+_, _-_, _*_, _≤_, _<_}
 use native.Mathlib.Omega.{arith}
-use lib.Dec.{eqb, leb, ltb}
-use lib.ListN.{length, getD, length-set}
-use borrow.Author.Tests.{leb-false, eqb-true, not-false}
-use Rattle.laws.specs.Tests.{pick, passes, Passes}
+use lib.Dec.{eqb, leb}
+use lib.ListN.{getD, length-set}
+use borrow.Author.Tests.{leb-false}
+use Rattle.laws.specs.Tests.{passes, Passes}
 use Rattle.laws.proofs.Tests.{pick-elim, true-false, all-passed}
-use Rattle.rules.specs.Types.{Frame, Order, Block, Header, Taking, Giving, Record, Answer}
-use Rattle.rules.specs.Numbers.{childFrames, Shape, format1, perTree, mostHuge}
+use Rattle.rules.specs.Types.{Frame, Order, Header, Record, Answer}
+use Rattle.rules.specs.Numbers.{childFrames, Shape, format1, mostHuge}
 use Rattle.rules.specs.Answers.{Next, ends, goesOn, nextOf, byNext}
 use Rattle.rules.specs.Entries.{field, headerLayout, headerChecks, markerOf, running, clean, headerSays}
 use Rattle.rules.specs.Zone.{Zone, headerOf, headerHuge, shapeOf, Store, stored}
-use Rattle.rules.specs.Plan.{Plan, guarded, carried}
+use Rattle.rules.specs.Plan.{Plan, carried}
 use Rattle.rules.specs.Checks.{notOpen, isMalformed}
 use Rattle.rules.specs.Ranges.{stepRange, takingIn, givingIn, blockIn}
 use Rattle.rules.specs.Blocks.{blockAt}
 use Rattle.rules.specs.Begin.{orderOf, beginGet, beginPut}
 use Rattle.rules.specs.Step.{act, step, ran, follow, after, mostGet, mostPut, searchSteps}
 use Rattle.rules.specs.Bounds.{Falls, Ends, left, takingLeft, givingLeft, ownRank, among, Bounds}
-use Rattle.rules.proofs.Guards.{EachRefusal, NoRefusal, guarded-elim, not-refused, answers, stores}
+use Rattle.rules.proofs.Guards.{NoRefusal, guarded-elim, not-refused, answers, stores}
 use Rattle.rules.proofs.Falls.{take-falls, give-falls}
 
 -- a header that is not malformed has a size

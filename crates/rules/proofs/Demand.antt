@@ -1,42 +1,40 @@
 -- Demand 3: each field of the promise, from the invariant.
 use mathlib.Core.Path.{_≡_, refl, sym, ap, _∙_, subst}
 use mathlib.Core.Logic.{_⊎_, inl, inr}
-use mathlib.Core.Bool.{Bool, true, false, not}
+use mathlib.Core.Bool.{true, false, not}
 use mathlib.Core.List.{List, [], _∷_, _++_}
 use Prim.Native.Nat.{ℕ, zero, suc, _+_, _*_, _/_, _%_, _≤_, _<_}
 use native.Mathlib.Omega.{arith}
 use native.Mathlib.Decide.{decLt}
-use lib.Dec.{eqb, leb}
-use lib.ListN.{length, getD, replicate}
-use borrow.Author.Tests.{eq-eqb, lt-leb, leb-true}
-use Rattle.laws.specs.Tests.{pick, Passes}
-use Rattle.laws.specs.Sum.{sumTo, sumL}
-use Rattle.laws.proofs.Tests.{pick-elim, pick-yes}
-use Rattle.laws.proofs.Sum.{sumL-append}
-use Rattle.rules.specs.Types.{Order, Block, Record, Answer}
+use lib.Dec.{leb}
+use lib.ListN.{length, replicate}
+use borrow.Author.Tests.{eq-eqb, lt-leb}
+use Rattle.laws.specs.Tests.{pick}
+use Rattle.laws.specs.Sum.{sumL}
+use Rattle.laws.proofs.Tests.{pick-elim}
+use Rattle.rules.specs.Types.{Block, Record, Answer}
 use Rattle.rules.specs.Numbers.{childFrames, childWords, mostHuge, mostCpus, format1, Shape, treesOf}
 use Rattle.rules.specs.Conversions.{frame}
 use Rattle.rules.specs.Blocks.{size, firstOf}
-use Rattle.rules.specs.Answers.{number, byAnswer, Next, ends, goesOn, nextOf, byNext}
-use Rattle.rules.specs.Zone.{Zone, headerOf, headerHuge, shaped, shapeOf, Store, nothing, stored}
+use Rattle.rules.specs.Answers.{number, Next, ends, goesOn, nextOf, byNext}
+use Rattle.rules.specs.Zone.{Zone, headerOf, headerHuge, shaped, shapeOf}
 use Rattle.rules.specs.Plan.{Mark, plain, takes, clears, Plan, Refusal, guarded}
 use Rattle.rules.specs.Begin.{orderNumber, isOrder, orderOf, badCpu, badOrder, badFrame, misaligned, beginGet, beginPut}
-use Rattle.rules.specs.Step.{step, after}
-use Rattle.rules.specs.Create.{done}
-use Rattle.rules.specs.Open.{openZone, openStep, settled, closeSound, closeZone}
+use Rattle.rules.specs.Step.{after}
+use Rattle.rules.specs.Open.{openStep, settled, closeSound, closeZone}
 use Rattle.rules.specs.Fresh.{Fitting}
-use Rattle.rules.specs.Events.{Begun, idle, getting, putting, Cpu, resting, taken, unlessCleared, lostBy, lostOf, lostAll, Phase, ready, down, opening, State, cpusOf, heldAt, Call, get, put, stepOf, close, openFirst, openLater, orderOfBlock, planned, markedBy, storedBy, withPhase, cutOff, answeredBy, Event, call, cut, cutIn, afterCut, next, Idle, Called, Admitted, Reach}
-use Rattle.rules.specs.Promise.{covers, covered, AtRest, ownedBy, most, Promise, Demand3}
+use Rattle.rules.specs.Events.{Begun, idle, getting, putting, Cpu, taken, unlessCleared, lostBy, lostOf, lostAll, Phase, ready, down, opening, State, cpusOf, heldAt, Call, get, put, stepOf, close, openFirst, openLater, orderOfBlock, planned, storedBy, withPhase, cutOff, answeredBy, Event, call, cut, cutIn, next, Called}
+use Rattle.rules.specs.Promise.{covers, AtRest, ownedBy, most, Promise, Demand3}
 use Rattle.rules.proofs.Guards.{guarded-elim}
 use Rattle.rules.proofs.Ways.{guarded-none}
 use Rattle.rules.proofs.Own.{owned-once, owned-survived}
 use Rattle.rules.proofs.Shares.{baseOf, wholeOf}
-use Rattle.rules.proofs.Invariant.{BlockIn, AllIn, Up, Fine, Keeps}
-use Rattle.rules.proofs.Readings.{shape-is, is-open, open-skips}
-use Rattle.rules.proofs.Phases.{lost-told, Down, Op, still, good-kept}
+use Rattle.rules.proofs.Invariant.{BlockIn, Up}
+use Rattle.rules.proofs.Readings.{shape-is, open-skips}
+use Rattle.rules.proofs.Phases.{lost-told, still}
 use Rattle.rules.proofs.Turns.{Goes, first-goes, later-goes, op-kept, in-table, stepped, as-many}
 use Rattle.rules.proofs.Ends.{length-replicate}
-use Rattle.rules.proofs.Histories.{Phased, Holds, made, at-phase, in-phase, at-still, inside-at, answer-elim, reached}
+use Rattle.rules.proofs.Histories.{Phased, Holds, made, in-phase, at-still, inside-at, answer-elim, reached}
 use Rattle.rules.proofs.Rest.{covered-is, covered-out, two-of, rest-taken, rest-trees, rest-children, rest-sound, rest-settled}
 
 module _ (n : ℕ) (s : State) (h : Holds n s) where

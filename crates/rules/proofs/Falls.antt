@@ -1,27 +1,27 @@
 -- Every step that goes on goes on in range, with fewer steps left, whatever the tables hold.
-use mathlib.Core.Path.{_≡_, refl, sym, ap, _∙_, subst}
+use mathlib.Core.Path.{_≡_, refl, sym, _∙_}
 use mathlib.Core.Bool.{Bool, true, false, _&&_}
-use mathlib.Core.List.{List, [], _∷_, _++_}
+use mathlib.Core.List.{[]}
 use mathlib.Core.Logic.{_≢_}
-use Prim.Native.Nat.{ℕ, zero, suc, pred, _+_, _-_, _*_, _/_, _%_, _≤_, _<_}
+use Prim.Native.Nat.{ℕ, suc, pred, _+_, _-_, _*_, _/_, _%_, _≤_, _<_}
 use native.Mathlib.Nat.{mul-le-mul-left}
 use native.Mathlib.Omega.{arith}
 use lib.Dec.{eqb, leb, ltb}
-use borrow.Author.Tests.{eqb-true, eqb-false, leb-true, leb-false, ltb-true, ltb-false, lt-ltb, le-ltb}
-use Rattle.laws.specs.Tests.{pick, Check, _below_, Passes}
+use borrow.Author.Tests.{eqb-true, eqb-false, leb-true, ltb-true, ltb-false, lt-ltb, le-ltb}
+use Rattle.laws.specs.Tests.{pick, Passes}
 use Rattle.laws.proofs.Tests.{pick-elim, pick-yes, pick-no, and-both, passes-left, passes-right, passes-both}
-use Rattle.rules.specs.Types.{Frame, Huge, Tree, Order, Block, Pass, Found, Place, Taking, Giving, Record, Answer, CpuEntry}
+use Rattle.rules.specs.Types.{Tree, Order, Block, Pass, Found, Place, Taking, Giving, CpuEntry}
 use Rattle.rules.specs.Numbers.{childWords, Shape, perTree, treesOf, childrenOf, capacity}
 use Rattle.rules.specs.Conversions.{tree, huge}
 use Rattle.rules.specs.Blocks.{size, frameAt, treeOfBlock}
-use Rattle.rules.specs.Plan.{Step, Made, Tally}
-use Rattle.rules.specs.Ranges.{treeIn, handIn, childIn, blockIn, cpuIn, passIn, stealIn, foundIn, placeIn, takingIn, givingIn, stepRange}
+use Rattle.rules.specs.Plan.{Made, Tally}
+use Rattle.rules.specs.Ranges.{passIn, foundIn, placeIn, takingIn, givingIn, stepRange}
 use Rattle.rules.specs.Places.{classOf, fits, skip, try, tryAt, nearFrom, stealFrom, passTree, foundTree, placeTree, afterPass, afterSteal, afterPlace}
 use Rattle.rules.specs.Take.{get, ifOwnHolds, claimOwn, release, write, stealCount, nextChild, searchChild, searchWord, take}
 use Rattle.rules.specs.Give.{put, clear, give}
 use Rattle.rules.specs.Step.{searchSteps}
 use Rattle.rules.specs.Bounds.{passRank, stealRank, ownRank, placeRank, toCome, takingLeft, givingLeft, left, Falls, at}
-use Rattle.rules.proofs.Guards.{Answers, answers, took-answer, bit-answer, gave-answer}
+use Rattle.rules.proofs.Guards.{Answers, took-answer, bit-answer, gave-answer}
 use Rattle.rules.proofs.Lower.{taken-at}
 use Rattle.rules.proofs.Shapes.{kids-some, kids-most, child-in, some-tree}
 

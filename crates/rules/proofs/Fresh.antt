@@ -11,14 +11,13 @@ use borrow.Author.Tests.{not-false}
 use Rattle.laws.specs.Tests.{pick, Passes}
 use Rattle.laws.proofs.Tests.{pick-elim, pick-yes, pick-no, every-all, every-at, and-both}
 use Rattle.laws.proofs.Parts.{part-at}
-use Rattle.laws.proofs.Sum.{sum-bound, sum-ext}
-use Rattle.laws.proofs.Words.{zeros-le}
+use Rattle.laws.proofs.Sum.{sum-ext}
 use Rattle.rules.specs.Types.{Header, CpuEntry, Opening, Record, Answer}
-use Rattle.rules.specs.Numbers.{childFrames, childWords, wordBits, mostHuge, format1, Shape, perTree, treesOf}
+use Rattle.rules.specs.Numbers.{mostHuge, format1, Shape, perTree, treesOf}
 use Rattle.rules.specs.Conversions.{huge, tree}
 use Rattle.rules.specs.Answers.{number}
 use Rattle.rules.specs.Entries.{running, headerWord, treeWord, cpuWord}
-use Rattle.rules.specs.Lower.{childSays, byChild, wellFormed, countIn, recount, zeroBits, partSum}
+use Rattle.rules.specs.Lower.{wellFormed, countIn, recount, partSum}
 use Rattle.rules.specs.Zone.{Zone, headerOf, headerHuge, shapeOf, Store, stored}
 use Rattle.rules.specs.Plan.{Plan, says, Refusal, guarded}
 use Rattle.rules.specs.Checks.{headerChecks, lengthChecks, isMalformed, isClean, isRunning, noHeader, notAZone}
@@ -30,11 +29,11 @@ use Rattle.rules.specs.Open.{childAt, zerosAt, childrenFormed, flagsEmpt
 use Rattle.rules.specs.Fresh.{Unborn, opens, stepsOfOpen, Opened, Runs}
 use Rattle.rules.specs.Reopen.{childAfter, treeAfter}
 use Rattle.rules.proofs.Computed.{by-computation}
-use Rattle.rules.proofs.Guards.{guarded-elim, not-refused, child-elim}
+use Rattle.rules.proofs.Guards.{guarded-elim, not-refused}
 use Rattle.rules.proofs.Shapes.{some-tree, child-in, huge-is, number-in}
 use Rattle.rules.proofs.Bounds.{header-sized}
 use Rattle.rules.proofs.Fields.{zero-bits, recounted}
-use Rattle.rules.proofs.Layouts.{running-again, count-again}
+use Rattle.rules.proofs.Layouts.{running-again}
 use Rattle.rules.proofs.Ways.{guarded-none, allowed, onward, Way, goes, over, way}
 use Rattle.rules.proofs.Created.{Filled, not-filled, one-more, set-only, created}
 

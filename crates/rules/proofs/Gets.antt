@@ -1,9 +1,8 @@
 -- Every step of a get keeps the invariant: each stage is one kind of store.
 use mathlib.Core.Path.{_≡_, refl, sym, ap, _∙_, subst}
-use mathlib.Core.Logic.{_≢_}
-use mathlib.Core.Bool.{Bool, true, false, _&&_}
+use mathlib.Core.Bool.{_&&_}
 use mathlib.Core.List.{List, [], _∷_, _++_}
-use Prim.Native.Nat.{ℕ, zero, suc, _+_, _-_, _*_, _/_, _%_, _^_, _≤_, _<_}
+use Prim.Native.Nat.{ℕ, suc, _+_, _-_, _*_, _/_, _≤_, _<_}
 use native.Mathlib.Omega.{arith}
 use native.Mathlib.Nat.{add-zero, zero-add}
 use native.Mathlib.Decide.{decLt}
@@ -11,31 +10,30 @@ use lib.Dec.{eqb, leb, ltb}
 use lib.ListN.{length, getD}
 use borrow.Author.Tests.{eqb-true, eqb-false, leb-true, leb-false, ltb-true}
 use Rattle.laws.specs.Tests.{pick, Passes}
-use Rattle.laws.specs.Sum.{sumTo, at}
+use Rattle.laws.specs.Sum.{at}
 use Rattle.laws.proofs.Tests.{pick-elim, and-both, passes-left, passes-right, passes-both}
 use Rattle.laws.specs.Words.{ones, lowest}
 use Rattle.laws.proofs.Words.{lowest-free}
 use Rattle.laws.proofs.Sum.{at-same, at-add, at-none}
-use Rattle.rules.specs.Types.{Frame, Huge, Tree, Order, Block, ChildEntry, CpuEntry, Took, Bit, Pass, Found, Place, Taking, Giving, Record, Answer}
-use Rattle.rules.specs.Numbers.{childFrames, childWords, wordBits, mostHuge, format1, Shape, perTree, treesOf, childrenOf, capacity}
+use Rattle.rules.specs.Types.{Tree, Order, Block, ChildEntry, CpuEntry, Took, Bit, Pass, Found, Place, Taking, Record, Answer}
+use Rattle.rules.specs.Numbers.{childFrames, childWords, wordBits, Shape, perTree, treesOf, childrenOf, capacity}
 use Rattle.rules.specs.Conversions.{tree, huge, frame}
 use Rattle.rules.specs.Blocks.{size, frameAt, firstOf, blockAt, treeOfBlock, childOfBlock, hugeOfBlock}
-use Rattle.rules.specs.Answers.{number, recordOf}
-use Rattle.rules.specs.Entries.{holdsChecks, cpuSays, cpuWord}
-use Rattle.rules.specs.Lower.{Lowered, told, changed, childSays, countWord, flaggedWord, takeRun, giveCount}
-use Rattle.rules.specs.Zone.{Zone, Store, nothing, shaped, cpuEntryAt}
-use Rattle.rules.specs.Plan.{Mark, plain, takes, toChild, toWord, onTook, onBit, onGave, Plan, says, Made, look, store, Tally, tally, byCpu, laidOut, byChange, toCpu, toTree, carried}
-use Rattle.rules.specs.Ranges.{handIn, blockIn, takingIn, passIn, stealIn, foundIn, placeIn}
-use Rattle.rules.specs.Places.{classOf, fits, passTree, foundTree, placeTree, try, tryAt, nearFrom, stealFrom, afterPass, afterSteal, afterPlace}
+use Rattle.rules.specs.Entries.{holdsChecks}
+use Rattle.rules.specs.Lower.{Lowered, told, changed, countWord, flaggedWord, takeRun}
+use Rattle.rules.specs.Zone.{Zone, Store, nothing, shaped}
+use Rattle.rules.specs.Plan.{Mark, plain, takes, toChild, toWord, onTook, onBit, Plan, says, Made, look, store, Tally, tally, byCpu, toCpu, toTree, carried}
+use Rattle.rules.specs.Ranges.{handIn, blockIn, takingIn, passIn, foundIn, placeIn}
+use Rattle.rules.specs.Places.{classOf, fits, passTree, foundTree, placeTree, afterPass, afterSteal, afterPlace}
 use Rattle.rules.specs.Take.{get, ifOwnHolds, claimOwn, release, write, stealCount, nextChild, searchChild, searchWord, take}
-use Rattle.rules.specs.Events.{Begun, getting, Cpu, resting, orderOfBlock, taken, lostBy, handed}
-use Rattle.rules.specs.Promise.{ownedBy, most}
-use Rattle.rules.proofs.Falls.{come-next, pass-tree, found-tree, place-tree, after-pass, after-steal, after-place}
+use Rattle.rules.specs.Events.{Cpu, orderOfBlock, taken, lostBy, handed}
+use Rattle.rules.specs.Promise.{ownedBy}
+use Rattle.rules.proofs.Falls.{come-next, pass-tree, found-tree, place-tree, after-place}
 use Rattle.rules.proofs.Shapes.{kids-some, some-tree, child-in, number-in}
 use Rattle.rules.proofs.Layouts.{format1-sound, holds-again, absent-again}
-use Rattle.rules.proofs.Shares.{mine, gone, share, has, lowOf, owed, reserves, Wanted, want, Proper, Enough, OfOrder, AgreesWith, Agrees}
+use Rattle.rules.proofs.Shares.{mine, share, has, lowOf, owed, reserves, Wanted, want, Proper, Enough, OfOrder, AgreesWith}
 use Rattle.rules.proofs.Upper.{entryAt, tallyAt, flagAt, absent-wanted}
-use Rattle.rules.proofs.Invariant.{BlockIn, AllIn, Up, Fine, Keeps, looked, own-kept, other-kept, tree-kept, count-kept, flag-kept, bits-kept}
+use Rattle.rules.proofs.Invariant.{BlockIn, Up, Fine, Keeps, looked, own-kept, other-kept, tree-kept, count-kept, flag-kept, bits-kept}
 use Rattle.rules.proofs.Fields.{count-fits, Says, counts, flagged, says as says-entry}
 use Rattle.rules.proofs.Stages.{block-huge}
 use Rattle.rules.proofs.Readings.{flag-small, room, reserved, under-way, read-cpu, read-tree, read-child, read-word}

@@ -1,20 +1,19 @@
 -- What is known where a plan goes on: of the refusals before it, of the entry read, of what the lower level said.
-use mathlib.Core.Path.{_≡_, refl, sym, ap, _∙_, subst}
-use mathlib.Core.Bool.{Bool, true, false, not, _&&_}
-use mathlib.Core.List.{List, [], _∷_, _++_}
-use Prim.Native.Nat.{ℕ, zero, suc, _+_, _-_, _*_, _≤_, _<_}
+use mathlib.Core.Path.{_≡_, refl}
+use mathlib.Core.Bool.{false, not}
+use mathlib.Core.List.{List, [], _∷_}
+use Prim.Native.Nat.{ℕ, _+_, _-_, _*_, _≤_}
 use native.Mathlib.Omega.{arith}
-use lib.Dec.{eqb, leb, ltb}
+use lib.Dec.{leb}
 use lib.ListN.{getD}
-use borrow.Author.Tests.{eqb-true, eqb-false, leb-true, leb-false, le-leb, not-false}
+use borrow.Author.Tests.{leb-true, le-leb, not-false}
 use Rattle.laws.specs.Tests.{pick, Check, _is_, passes, Passes}
-use Rattle.laws.proofs.Tests.{pick-elim, pick-yes, true-false, all-passed, passes-of}
+use Rattle.laws.proofs.Tests.{pick-elim, pick-yes, all-passed, passes-of}
 use Rattle.rules.specs.Types.{Tree, ChildEntry, TreeEntry, CpuEntry, Took, Bit, Gave, Answer}
 use Rattle.rules.specs.Numbers.{childWords, Shape, perTree, capacity}
-use Rattle.rules.specs.Conversions.{tree}
-use Rattle.rules.specs.Entries.{field, cpuLayout, treeLayout, holdsChecks, treeSays, cpuSays}
+use Rattle.rules.specs.Entries.{field, treeLayout, holdsChecks, treeSays, cpuSays}
 use Rattle.rules.specs.Lower.{Change, keep, become, Lowered, told, changed, byChild}
-use Rattle.rules.specs.Zone.{Zone, Store, nothing, header, word, child, tree as treeStore, cpu, treeEntryAt, cpuEntryAt, childPart, wordPart}
+use Rattle.rules.specs.Zone.{Zone, Store, nothing, word, child, tree as treeStore, cpu, treeEntryAt, cpuEntryAt, childPart, wordPart}
 use Rattle.rules.proofs.Layouts.{CpuView, brokenCpu, absent, holds, cpu-view}
 use Rattle.rules.specs.Plan.{Mark, plain, Plan, says, refuse, Refusal, guarded, Made, look, store, Tally, tally, Step, noEntry, cpuEntry, treeEntry, childEntry, wordEntry, byChange, byCpu, byTree, made, laidOut, toCpu, toTree, toChild, toWord, carried, lowered, byTook, byBit, byGave, onTook, onBit, onGave}
 

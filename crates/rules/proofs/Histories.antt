@@ -1,34 +1,30 @@
 -- Every state that a history reaches keeps the invariant of its phase.
 use mathlib.Core.Path.{_≡_, refl, sym, ap, _∙_, subst}
-use mathlib.Core.Logic.{_⊎_, inl, inr, _≢_}
-use mathlib.Core.Bool.{Bool, true, false}
+use mathlib.Core.Logic.{inl, inr}
 use mathlib.Core.List.{List, [], _∷_, _++_}
-use Prim.Native.Nat.{ℕ, zero, suc, _+_, _*_, _/_, _≤_, _<_}
+use Prim.Native.Nat.{ℕ, zero, suc, _+_, _≤_, _<_}
 use native.Mathlib.Omega.{arith}
 use native.Mathlib.Nat.{add-zero}
-use lib.Dec.{leb}
 use lib.ListN.{length, getD}
 use borrow.Author.Tests.{leb-false}
 use Rattle.laws.specs.Tests.{pick, Passes}
 use Rattle.laws.specs.Sum.{sumL, upd}
-use Rattle.laws.proofs.Sum.{upd-at, upd-twice, sumL-append}
-use Rattle.rules.specs.Types.{Frame, Order, Block, Taking, Giving, Record, Answer}
-use Rattle.rules.specs.Numbers.{childFrames, mostCpus, format1, Shape, treesOf}
+use Rattle.laws.proofs.Sum.{upd-at, upd-twice}
+use Rattle.rules.specs.Types.{Frame, Block, Taking, Giving, Record, Answer}
+use Rattle.rules.specs.Numbers.{treesOf}
 use Rattle.rules.specs.Conversions.{frame, huge}
 use Rattle.rules.specs.Blocks.{firstOf, blockAt}
 use Rattle.rules.specs.Answers.{number, byAnswer, Next, ends, goesOn, nextOf, byNext}
-use Rattle.rules.specs.Zone.{Zone, headerOf, headerHuge, shaped, shapeOf, Store, nothing, stored}
-use Rattle.rules.specs.Plan.{Mark, plain, Plan, says, Refusal}
+use Rattle.rules.specs.Zone.{Zone, shaped, nothing, stored}
+use Rattle.rules.specs.Plan.{Mark, Plan, says, Refusal}
 use Rattle.rules.specs.Ranges.{blockIn, takingIn, givingIn}
 use Rattle.rules.specs.Begin.{orderNumber, orderOf, badCpu, badOrder, badFrame, misaligned, beginGet, beginPut}
 use Rattle.rules.specs.Step.{step, after}
-use Rattle.rules.specs.Create.{done, createSteps}
 use Rattle.rules.specs.Open.{openZone, openStep, closeZone}
-use Rattle.rules.specs.Fresh.{Fitting, creates}
-use Rattle.rules.specs.Events.{Begun, idle, getting, putting, Cpu, resting, taken, unlessCleared, lostBy, lostAll, Phase, ready, down, opening, State, cpusOf, heldAt, without, Call, get, put, stepOf, close, openFirst, openLater, orderOfBlock, planned, markedBy, storedBy, handed, withCpu, cutOff, answeredBy, Event, call, cut, cutIn, afterCut, next, Idle, Called, Left, Admitted, started, Reach, start, then}
+use Rattle.rules.specs.Events.{Begun, idle, getting, putting, Cpu, resting, taken, unlessCleared, lostBy, lostAll, Phase, ready, down, opening, State, without, Call, get, put, stepOf, close, openFirst, openLater, orderOfBlock, planned, markedBy, storedBy, handed, withCpu, cutOff, answeredBy, Event, call, cut, cutIn, afterCut, next, Called, Left, Admitted, Reach, start, then}
 use Rattle.rules.proofs.Guards.{guarded-elim}
 use Rattle.rules.proofs.Shares.{lowOf, owed, reserves}
-use Rattle.rules.proofs.Invariant.{BlockIn, AllIn, Up, Fine, Keeps}
+use Rattle.rules.proofs.Invariant.{BlockIn, AllIn, Up}
 use Rattle.rules.proofs.Readings.{shape-is, open-skips}
 use Rattle.rules.proofs.Phases.{Down, Op, still, down-huge}
 use Rattle.rules.proofs.Turns.{Goes, first-goes, later-goes, cut-down, down-again, op-down, op-huge, begun-up, in-table, stepped, step-cut}

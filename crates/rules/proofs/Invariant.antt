@@ -1,31 +1,29 @@
 -- The invariant of an open zone, and that a step keeps it: one lemma for each kind of store.
 use mathlib.Core.Path.{_≡_, refl, sym, ap, _∙_, subst}
 use mathlib.Core.Logic.{_≢_}
-use mathlib.Core.Bool.{Bool, true, false}
 use mathlib.Core.List.{List, [], _∷_, _++_}
-use Prim.Native.Nat.{ℕ, zero, suc, _+_, _-_, _*_, _^_, _≤_, _<_}
+use Prim.Native.Nat.{ℕ, _+_, _-_, _*_, _≤_, _<_}
 use native.Mathlib.Omega.{arith}
 use native.Mathlib.Nat.{add-zero}
 use native.Mathlib.Decide.{ℕ-discrete}
 use lib.ListN.{length, getD, set, length-set}
-use Rattle.laws.specs.Tests.{pick, Passes}
-use Rattle.laws.specs.Sum.{sumTo, sumL, run, at, upd}
+use Rattle.laws.specs.Sum.{sumTo, sumL, at, upd}
 use Rattle.laws.specs.Words.{bits, ones}
-use Rattle.laws.proofs.Sum.{at-same, at-none, sum-upd, sumL-append, map-upd, upd-at, upd-other, sum-ext, sum-add, sum-bound}
-use Rattle.rules.specs.Types.{Tree, Order, Block, ChildEntry, CpuEntry, Record, Answer}
+use Rattle.laws.proofs.Sum.{at-same, at-none, sum-upd, sumL-append, map-upd, upd-at, upd-other, sum-add}
+use Rattle.rules.specs.Types.{Block, ChildEntry, CpuEntry, Record, Answer}
 use Rattle.rules.specs.Numbers.{childFrames, childWords, wordBits, mostHuge, mostCpus, format1, Shape, perTree, treesOf, childrenOf, capacity}
 use Rattle.rules.specs.Conversions.{huge, frame}
-use Rattle.rules.specs.Answers.{number, byAnswer, Next, ends, goesOn, recordOf, nextOf, byNext}
-use Rattle.rules.specs.Entries.{headerWord, running, treeWord, holdsChecks, cpuSays, cpuWord}
+use Rattle.rules.specs.Answers.{number, Next, ends, goesOn, recordOf, nextOf, byNext}
+use Rattle.rules.specs.Entries.{headerWord, running, cpuSays, cpuWord}
 use Rattle.rules.specs.Lower.{childSays, countWord, flaggedWord}
 use Rattle.rules.specs.Zone.{Zone, shaped, Store, stored, nothing}
 use Rattle.rules.specs.Plan.{Mark, plain, takes, clears, Plan, says}
-use Rattle.rules.specs.Events.{Begun, Cpu, resting, taken, unlessCleared, lostBy, handed}
+use Rattle.rules.specs.Events.{Cpu, resting, taken, unlessCleared, lostBy, handed}
 use Rattle.rules.specs.Promise.{ownedBy, most}
 use Rattle.rules.proofs.Layouts.{format1-sound}
-use Rattle.rules.proofs.Shapes.{kids-most, child-in, sum-tree}
+use Rattle.rules.proofs.Shapes.{child-in, sum-tree}
 use Rattle.rules.proofs.Shares.{baseOf, wholeOf, share, has, lowOf, owed, reserves, Wanted, want, Proper, AgreesWith, Agrees}
-use Rattle.rules.proofs.Own.{freeOf, Owned, owned-same, free-most, count-stored, count-free, flag-stored, flag-free, flag-cleared, unflag-free, bits-stored, set-free, bits-cleared, clear-free}
+use Rattle.rules.proofs.Own.{freeOf, Owned, owned-same, count-stored, count-free, flag-stored, flag-free, flag-cleared, unflag-free, bits-stored, set-free, bits-cleared, clear-free}
 use Rattle.rules.proofs.Upper.{entryAt, tallyAt, flagAt, Upper, record-changed, tree-stored, own-stored, other-absent}
 
 -- ---- sums over what is held, what is lost, and what operations own

@@ -1,24 +1,24 @@
 -- Packed entries: their round trips, and what breaks a layout.
-use mathlib.Core.Path.{_≡_, refl, sym, ap, _∙_, subst}
-use mathlib.Core.Logic.{_⊎_, inl, inr, _↔_, _≢_}
-use mathlib.Core.Bool.{Bool, true, false}
+use mathlib.Core.Path.{_≡_, refl, sym, ap, _∙_}
+use mathlib.Core.Logic.{inl, inr, _↔_, _≢_}
+use mathlib.Core.Bool.{true, false}
 use mathlib.Core.List.{List, [], _∷_}
-use Prim.Native.Nat.{ℕ, zero, suc, _+_, _-_, _*_, _^_, _/_, _%_, _≤_, _<_}
+use Prim.Native.Nat.{ℕ, suc, _-_, _*_, _^_, _≤_, _<_}
 use native.Mathlib.Omega.{arith}
 use native.Mathlib.Nat.{mod-eq-of-lt, mul-le-mul-left}
 use native.Mathlib.Decide.{decLt}
 use lib.Dec.{eqb, leb}
 use lib.ListN.{getD}
 use lib.Pow.{pow-pos}
-use borrow.Author.Tests.{eqb-true, eqb-false, eq-eqb, ne-eqb, leb-true, leb-false, le-leb}
+use borrow.Author.Tests.{eqb-true, eqb-false, ne-eqb, leb-true, leb-false, le-leb}
 use Rattle.laws.specs.Tests.{pick, Check, _is_, _below_, passes, Passes}
 use Rattle.laws.specs.Fields.{width, split, join, Fit}
 use Rattle.laws.proofs.Tests.{pick-elim, pick-yes, pick-no, true-false, all-passed, passes-of}
 use Rattle.laws.proofs.Fields.{split-join, join-split}
 use Rattle.rules.specs.Types.{Tree, Header, ChildEntry, TreeEntry, CpuEntry}
-use Rattle.rules.specs.Numbers.{childFrames, mostHuge, Format, format1, Shape, perTree, treesOf, childrenOf, capacity}
+use Rattle.rules.specs.Numbers.{childFrames, mostHuge, format1, Shape, perTree, capacity}
 use Rattle.rules.specs.Conversions.{tree}
-use Rattle.rules.specs.Entries.{field, headerLayout, headerChecks, markerOf, identifier, running, clean, headerSays, headerWord, treeLayout, treeSays, treeWord, cpuLayout, holdsChecks, cpuSays, cpuWord}
+use Rattle.rules.specs.Entries.{field, headerLayout, headerChecks, identifier, running, clean, headerSays, headerWord, treeLayout, treeSays, treeWord, cpuLayout, holdsChecks, cpuSays, cpuWord}
 use Rattle.rules.specs.Lower.{childLayout, childSays, countWord, flaggedWord}
 use Rattle.rules.specs.Layouts.{Sound, Trips, ChildLaidOut, TreeLaidOut, CpuLaidOut, Layouts}
 use Rattle.rules.proofs.Shapes.{tree-first, kids-most}

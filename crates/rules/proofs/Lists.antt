@@ -1,5 +1,5 @@
 -- A list of refusals and a list of rules that say the same: the call answers the first number whose rule holds, and a refusal stores nothing.
-use mathlib.Core.Path.{_≡_, refl, sym, ap, _∙_}
+use mathlib.Core.Path.{_≡_, refl, sym, _∙_}
 use mathlib.Core.Logic.{_⊎_, inl, inr}
 use mathlib.Core.Bool.{Bool, true, false, not, _&&_}
 use mathlib.Core.List.{List, [], _∷_, _++_}
@@ -7,11 +7,10 @@ use Prim.Native.Nat.{ℕ, _≤_, _<_}
 use native.Mathlib.Omega.{arith}
 use lib.Dec.{leb, eqb}
 use borrow.Author.Tests.{not-true, not-false, leb-true, leb-false, eqb-true, eqb-false}
-use Rattle.laws.specs.Tests.{pick, every, Check, passes, Passes}
+use Rattle.laws.specs.Tests.{every, Check, passes, Passes}
 use Rattle.laws.proofs.Tests.{pick-elim, true-false, all-passed, passes-of, every-at, every-not}
-use Rattle.rules.specs.Types.{Answer}
 use Rattle.rules.specs.Answers.{number}
-use Rattle.rules.specs.Plan.{Plan, refuse, Refusal, guarded}
+use Rattle.rules.specs.Plan.{Plan, Refusal, guarded}
 use Rattle.rules.specs.Refusals.{Rule, First, Quiet}
 use Rattle.rules.proofs.Guards.{NoRefusal}
 

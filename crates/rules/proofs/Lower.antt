@@ -1,11 +1,10 @@
 -- The lower level's laws: what its steps say, and what they make of an entry. What stands above knows no more of words and children.
-use mathlib.Core.Path.{_≡_, refl, sym, ap, _∙_, subst}
-use mathlib.Core.Bool.{Bool, true, false}
-use mathlib.Core.List.{List, [], _∷_}
-use Prim.Native.Nat.{ℕ, zero, suc, _+_, _-_, _*_, _/_, _%_, _^_, _≤_, _<_}
+use mathlib.Core.Path.{_≡_, refl, sym}
+use mathlib.Core.List.{[]}
+use Prim.Native.Nat.{ℕ, _+_, _-_, _*_, _/_, _^_, _≤_, _<_}
 use native.Mathlib.Omega.{arith}
 use lib.Dec.{eqb, leb, ltb}
-use borrow.Author.Tests.{eqb-true, eqb-false, leb-true, leb-false, ltb-true, ltb-false, le-leb, lt-ltb, le-ltb, eq-eqb}
+use borrow.Author.Tests.{ltb-true, le-leb, lt-ltb, le-ltb, eq-eqb}
 use Rattle.laws.specs.Tests.{pick}
 use Rattle.laws.specs.Words.{lowest, ones, bits}
 use Rattle.laws.proofs.Tests.{pick-elim, pick-yes, pick-no}

@@ -7,7 +7,6 @@ use Prim.Native.Nat.{ℕ, suc, _+_, _-_, _*_, _/_, _%_, _^_, _≤_, _<_}
 use native.Mathlib.Omega.{arith}
 use native.Mathlib.Nat.{add-zero}
 use lib.ListN.{length, getD, set, length-set}
-use lib.Seq.{getD-set-same, getD-set-other}
 use Rattle.laws.specs.Tests.{pick}
 use Rattle.laws.specs.Sum.{sumTo, run, at}
 use Rattle.laws.specs.Words.{bit, bits, ones}
@@ -16,10 +15,10 @@ use Rattle.laws.proofs.Sum.{placed, here, elsewhere, at-same, at-other, sum-ext
 use Rattle.laws.proofs.Words.{bit-le}
 use Rattle.rules.specs.Types.{ChildEntry}
 use Rattle.rules.specs.Numbers.{childFrames, childWords, wordBits}
-use Rattle.rules.specs.Lower.{childSays, countWord, flaggedWord, wellFormed, isFlagged, countIn, zeroBits, recount}
+use Rattle.rules.specs.Lower.{childSays, countWord, flaggedWord, wellFormed, isFlagged, countIn, zeroBits}
 use Rattle.rules.proofs.Layouts.{count-again, flagged-again}
 use Rattle.rules.proofs.Created.{all-set}
-use Rattle.rules.proofs.Fields.{counts-entry, flagged-entry, counts, flagged, says, recounted, zero-bits, zero-frames, empty-bit, bits-set, bits-clear, frames-set, zeros-lost}
+use Rattle.rules.proofs.Fields.{counts-entry, flagged-entry, counts, flagged, says, zero-bits, zero-frames, empty-bit, bits-set, bits-clear, frames-set, zeros-lost}
 
 -- ---- what the tables say: a child's flag and its free frames, a frame's bit
 abbrev pub flagOf : List ℕ → ℕ → ℕ

@@ -1,38 +1,38 @@
 -- The invariant outside an open zone: after a cut or a close, and inside an open; and how one phase leads to the next.
-use mathlib.Core.Path.{_≡_, refl, sym, ap, ap₂, _∙_, subst}
-use mathlib.Core.Logic.{_⊎_, inl, inr, _≢_}
-use mathlib.Core.Bool.{Bool, true, false, not}
+use mathlib.Core.Path.{_≡_, refl, sym, ap, _∙_}
+use mathlib.Core.Logic.{_⊎_, inl, inr}
+use mathlib.Core.Bool.{true, false, not}
 use mathlib.Core.List.{List, [], _∷_, _++_}
 use Prim.Native.Nat.{ℕ, zero, suc, _+_, _-_, _*_, _/_, _%_, _≤_, _<_}
 use native.Mathlib.Omega.{arith}
-use lib.ListN.{length, getD, length-set}
+use lib.ListN.{length, getD}
 use borrow.Author.Tests.{eq-eqb}
-use Rattle.laws.specs.Tests.{pick, Passes}
+use Rattle.laws.specs.Tests.{pick}
 use Rattle.laws.specs.Sum.{sumTo, sumL}
 use Rattle.laws.specs.Words.{zeros}
-use Rattle.laws.specs.Fields.{Fit, join}
+use Rattle.laws.specs.Fields.{Fit}
 use Rattle.laws.proofs.Tests.{pick-elim, pick-yes, both-and, every-all}
-use Rattle.laws.proofs.Sum.{sumL-append, sum-ext, sum-zero, sum-const, sum-bound}
+use Rattle.laws.proofs.Sum.{sumL-append, sum-ext, sum-zero, sum-bound}
 use Rattle.laws.proofs.Parts.{part-at}
-use Rattle.rules.specs.Types.{Block, Header, CpuEntry, Opening, Record, Answer}
-use Rattle.rules.specs.Numbers.{childFrames, childWords, wordBits, mostHuge, mostCpus, format1, Shape, perTree, treesOf, childrenOf, capacity}
-use Rattle.rules.specs.Conversions.{huge, tree}
+use Rattle.rules.specs.Types.{Block, Header, CpuEntry, Opening, Record}
+use Rattle.rules.specs.Numbers.{childFrames, childWords, wordBits, mostHuge, mostCpus, Shape, perTree, treesOf, childrenOf}
+use Rattle.rules.specs.Conversions.{huge}
 use Rattle.rules.specs.Answers.{number}
 use Rattle.rules.specs.Entries.{field, headerWord, running, clean, treeLayout, treeWord, cpuWord, cpuSays}
-use Rattle.rules.specs.Lower.{wellFormed, isFlagged, countIn, zeroBits, emptyField, recount}
-use Rattle.rules.specs.Zone.{Zone, headerOf, headerHuge, shaped, shapeOf, Store}
-use Rattle.rules.specs.Plan.{byCpu, Plan, says}
-use Rattle.rules.specs.Checks.{isMalformed, isClean, isRunning, headerChecks, lengthChecks}
-use Rattle.rules.specs.Open.{opening, childAt, zerosAt, emptyAt, childrenFormed, flagsEmpty, openSound, openZone}
-use Rattle.rules.specs.Reopen.{childAfter, treeAfter}
-use Rattle.rules.specs.Events.{Cpu, resting, taken, unlessCleared, lostBy, lostOf, lostAll}
+use Rattle.rules.specs.Lower.{wellFormed, isFlagged, countIn, zeroBits, emptyField}
+use Rattle.rules.specs.Zone.{Zone, headerOf, headerHuge, shaped, shapeOf}
+use Rattle.rules.specs.Plan.{byCpu, Plan}
+use Rattle.rules.specs.Checks.{isMalformed, isRunning, headerChecks, lengthChecks}
+use Rattle.rules.specs.Open.{childAt, zerosAt, childrenFormed, flagsEmpty, openSound, openZone}
+use Rattle.rules.specs.Reopen.{childAfter}
+use Rattle.rules.specs.Events.{Cpu, resting, lostBy, lostOf, lostAll}
 use Rattle.rules.specs.Promise.{ownedBy}
 use Rattle.rules.proofs.Shapes.{huge-is, number-in, kids-most}
-use Rattle.rules.proofs.Layouts.{format1-sound, field-join, running-again, clean-again, absent-again}
+use Rattle.rules.proofs.Layouts.{field-join, running-again, clean-again, absent-again}
 use Rattle.rules.proofs.Fields.{zero-bits, recounted}
 use Rattle.rules.proofs.Ways.{guarded-none, allowed}
 use Rattle.rules.proofs.Fresh.{child-at, Accepts, accepts, Good, At, each}
-use Rattle.rules.proofs.Own.{flagOf, freeOf, bitAt, Owned, owned-same, Survived, survived-owned, free-most}
+use Rattle.rules.proofs.Own.{freeOf, owned-same, Survived, survived-owned, free-most}
 use Rattle.rules.proofs.Shares.{baseOf, wholeOf, lowOf, owed, reserves, share, has, AgreesWith, Agrees}
 use Rattle.rules.proofs.Upper.{entryAt, tallyAt, flagAt}
 use Rattle.rules.proofs.Invariant.{weighs, freeTree, Up}

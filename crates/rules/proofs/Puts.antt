@@ -1,40 +1,36 @@
 -- Every step of a put keeps the invariant.
 use mathlib.Core.Path.{_≡_, refl, sym, ap, _∙_, subst}
-use mathlib.Core.Logic.{_≢_}
-use mathlib.Core.Bool.{Bool, true, false}
-use mathlib.Core.List.{List, [], _∷_, _++_}
-use Prim.Native.Nat.{ℕ, zero, suc, _+_, _-_, _*_, _/_, _%_, _^_, _≤_, _<_}
+use mathlib.Core.List.{List, [], _∷_}
+use Prim.Native.Nat.{ℕ, _+_, _-_, _*_, _/_, _≤_, _<_}
 use native.Mathlib.Omega.{arith}
 use native.Mathlib.Nat.{add-zero, zero-add}
-use lib.Dec.{eqb, leb}
+use lib.Dec.{eqb}
 use lib.ListN.{length, getD}
-use borrow.Author.Tests.{eqb-true, eqb-false}
-use Rattle.laws.specs.Tests.{pick, Passes}
+use borrow.Author.Tests.{eqb-true}
+use Rattle.laws.specs.Tests.{Passes}
 use Rattle.laws.specs.Words.{bit, bits, ones}
-use Rattle.laws.specs.Sum.{sumTo, sumL, at}
+use Rattle.laws.specs.Sum.{sumL, at}
 use Rattle.laws.proofs.Tests.{pick-elim}
-use Rattle.laws.proofs.Sum.{at-same, at-add, run-in, sum-part, sumL-part}
-use Rattle.rules.specs.Types.{Frame, Huge, Tree, Order, Block, ChildEntry, CpuEntry, Gave, Giving, Record, Answer}
-use Rattle.rules.specs.Numbers.{childFrames, childWords, wordBits, format1, Shape, perTree, treesOf, childrenOf, capacity}
+use Rattle.laws.proofs.Sum.{at-same, at-add, run-in, sum-part}
+use Rattle.rules.specs.Types.{Frame, Huge, Tree, Block, ChildEntry, CpuEntry, Giving, Record, Answer}
+use Rattle.rules.specs.Numbers.{childFrames, childWords, wordBits, Shape, perTree, treesOf, childrenOf, capacity}
 use Rattle.rules.specs.Conversions.{tree, huge, frame}
-use Rattle.rules.specs.Blocks.{size, sizeOf, firstOf, treeOfBlock, childOfBlock, hugeOfBlock, wordOf, bitOf}
-use Rattle.rules.specs.Answers.{number, recordOf}
+use Rattle.rules.specs.Blocks.{sizeOf, firstOf, treeOfBlock, childOfBlock, hugeOfBlock, wordOf, bitOf}
 use Rattle.rules.specs.Entries.{holdsChecks}
-use Rattle.rules.specs.Lower.{Lowered, changed, childSays, countWord, giveCount, clearRun, clearHuge}
+use Rattle.rules.specs.Lower.{childSays, countWord, clearRun}
 use Rattle.rules.specs.Zone.{Zone, Store, nothing, shaped}
-use Rattle.rules.specs.Plan.{Mark, plain, clears, Plan, says, Made, look, store, Tally, tally, byCpu, toCpu, toTree, toChild, toWord, onGave, carried}
+use Rattle.rules.specs.Plan.{plain, clears, Plan, says, Made, look, store, byCpu, toCpu, toWord, onGave, carried}
 use Rattle.rules.specs.Ranges.{blockIn, givingIn}
-use Rattle.rules.specs.Take.{ifOwnHolds}
 use Rattle.rules.specs.Give.{put, clear, give}
-use Rattle.rules.specs.Events.{Begun, putting, Cpu, resting, unlessCleared, lostBy, handed}
-use Rattle.rules.specs.Promise.{ownedBy, most}
+use Rattle.rules.specs.Events.{Cpu, unlessCleared, lostBy, handed}
+use Rattle.rules.specs.Promise.{ownedBy}
 use Rattle.rules.proofs.Guards.{look-plan, holds-plan, tally-plan, given-plan, cleared-plan}
 use Rattle.rules.proofs.Shapes.{tree-in, number-in, huge-is}
 use Rattle.rules.proofs.Layouts.{format1-sound, holds-again}
 use Rattle.rules.proofs.Lower.{give-counts, clear-flagged, clear-run}
 use Rattle.rules.proofs.Stages.{block-huge}
 use Rattle.rules.proofs.Own.{base-bit, whole-flag, owned-once, owned-survived}
-use Rattle.rules.proofs.Shares.{baseOf, wholeOf, share, has, lowOf, owed, reserves, Wanted, want, Proper, AgreesWith, Agrees}
+use Rattle.rules.proofs.Shares.{baseOf, wholeOf, share, has, lowOf, owed, reserves, Proper, AgreesWith}
 use Rattle.rules.proofs.Upper.{entryAt, tallyAt, flagAt}
 use Rattle.rules.proofs.Invariant.{weighs, Up, Fine, Keeps, looked, own-kept, tree-kept, count-kept, unflag-kept, bits-unkept}
 use Rattle.rules.proofs.Readings.{flag-small, room, under-way, read-cpu, read-tree, read-child, read-word}

@@ -1,34 +1,27 @@
 -- In a zone that keeps the invariant no call is refused before its stage, every entry read is well formed, and every sum has room.
 use mathlib.Core.Path.{_≡_, refl, sym, ap, _∙_, subst}
-use mathlib.Core.Logic.{_≢_}
-use mathlib.Core.Bool.{Bool, true, false, not}
-use mathlib.Core.List.{List, [], _∷_, _++_}
-use Prim.Native.Nat.{ℕ, zero, suc, _+_, _-_, _*_, _/_, _%_, _^_, _≤_, _<_}
+use mathlib.Core.List.{List, [], _++_}
+use Prim.Native.Nat.{ℕ, _+_, _-_, _*_, _≤_, _<_}
 use native.Mathlib.Omega.{arith}
-use native.Mathlib.Nat.{mod-lt}
-use lib.Dec.{leb}
 use lib.ListN.{length, getD}
 use borrow.Author.Tests.{le-leb}
-use Rattle.laws.specs.Tests.{pick, Passes}
-use Rattle.laws.specs.Sum.{sumTo, at}
+use Rattle.laws.specs.Tests.{Passes}
 use Rattle.laws.specs.Fields.{split, width}
 use Rattle.laws.proofs.Tests.{pick-yes, pick-no}
 use Rattle.laws.proofs.Sum.{sum-part, sum-bound}
 use Rattle.laws.proofs.Parts.{part-at}
 use Rattle.rules.specs.Types.{Tree, Block, Header, ChildEntry, TreeEntry, CpuEntry, Record}
-use Rattle.rules.specs.Numbers.{childFrames, childWords, format1, Shape, perTree, treesOf, childrenOf, capacity}
-use Rattle.rules.specs.Conversions.{tree}
+use Rattle.rules.specs.Numbers.{childFrames, childWords, Shape, perTree, treesOf, childrenOf, capacity}
 use Rattle.rules.specs.Entries.{field, treeLayout, treeSays, holdsChecks}
 use Rattle.rules.specs.Lower.{childSays}
-use Rattle.rules.specs.Zone.{Zone, headerOf, headerHuge, shaped, shapeOf, treeEntryAt, cpuEntryAt, childPart, wordPart}
-use Rattle.rules.specs.Plan.{Plan, Refusal, Made, Tally, Step, cpuEntry, treeEntry, childEntry, wordEntry, byTree, toCpu, toTree, toChild, toWord, carried, guarded}
+use Rattle.rules.specs.Zone.{Zone, headerOf, headerHuge, shaped, shapeOf, treeEntryAt, cpuEntryAt}
+use Rattle.rules.specs.Plan.{Plan, Refusal, Made, Tally, cpuEntry, treeEntry, childEntry, wordEntry, byTree, toCpu, toTree, toChild, toWord, carried, guarded}
 use Rattle.rules.specs.Checks.{isMalformed, isClean, headerChecks, lengthChecks, notOpen}
 use Rattle.rules.specs.Ranges.{stepRange}
 use Rattle.rules.specs.Step.{act, step}
 use Rattle.rules.specs.Events.{Cpu}
 use Rattle.rules.proofs.Guards.{NoRefusal, cpu-elim, holds-in}
 use Rattle.rules.proofs.Layouts.{running-again}
-use Rattle.rules.proofs.Shapes.{kids-most}
 use Rattle.rules.proofs.Ways.{guarded-none, allowed}
 use Rattle.rules.proofs.Shares.{share, lowOf, owed, reserves}
 use Rattle.rules.proofs.Own.{free-most, low-clear}

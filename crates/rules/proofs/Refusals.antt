@@ -1,17 +1,17 @@
 -- Every call answers the first number of its list whose rule holds; a refusal stores nothing.
-use mathlib.Core.Path.{_≡_, refl, sym, ap, _∙_, subst}
+use mathlib.Core.Path.{_≡_, refl, sym, _∙_}
 use mathlib.Core.Logic.{_⊎_, inl, inr, _≢_}
 use mathlib.Core.Bool.{Bool, true, false, not, _&&_}
 use mathlib.Core.List.{List, [], _∷_, _++_}
-use Prim.Native.Nat.{ℕ, zero, suc, _+_, _-_, _*_, _%_, _≤_, _<_}
+use Prim.Native.Nat.{ℕ, suc, _+_, _-_, _*_, _%_, _≤_, _<_}
 use native.Mathlib.Omega.{arith}
 use native.Mathlib.Decide.{ℕ-discrete}
 use lib.Dec.{eqb, leb, ltb}
-use lib.ListN.{length, getD}
-use borrow.Author.Tests.{eqb-true, eqb-false, eq-eqb, ne-eqb, leb-true, leb-false, not-true, not-false}
-use Rattle.laws.specs.Tests.{pick, every, Check, passes, Passes}
+use lib.ListN.{length}
+use borrow.Author.Tests.{eqb-true, eqb-false, not-true, not-false}
+use Rattle.laws.specs.Tests.{pick, Check, passes, Passes}
 use Rattle.laws.proofs.Tests.{pick-elim, true-false, all-passed, passes-of}
-use Rattle.rules.specs.Types.{Frame, Order, Header, CpuEntry, Creating, Opening, Record, Answer}
+use Rattle.rules.specs.Types.{Frame, Header, CpuEntry, Creating, Opening, Record, Answer}
 use Rattle.rules.specs.Numbers.{Shape}
 use Rattle.rules.specs.Entries.{field, headerLayout, headerChecks, markerOf, running, clean, headerSays}
 use Rattle.rules.specs.Answers.{number}
@@ -25,7 +25,7 @@ use Rattle.rules.specs.Checks.{unless, isMalformed, isClean, isRunning, 
 use Rattle.rules.specs.Blocks.{size}
 use Rattle.rules.specs.Begin.{badCpu, badOrder, badFrame, misaligned, isOrder, orderOf, beginGet, beginPut}
 use Rattle.rules.specs.Refusals.{Rule, _when_, word0, WellFormed, HeaderMissing, NotAZone, IsClosed, openRules, getRules, frameRules, putRules, OutOfRange, entryRules, stepRules, StepElse, Quiet, sizeRules, createStepRules, BadChild, BadField, BadTree, BadCpu, BadOpening, Settled, openZoneRules, openStepRules, closeRules, Call, Refusals}
-use Rattle.rules.proofs.Lists.{Decides, Matches, None, first-guarded, quiet-guarded, decides-not, decides-passes, decides-unless, decides-iff, decides-le, decides-either, stable}
+use Rattle.rules.proofs.Lists.{Decides, Matches, None, first-guarded, quiet-guarded, decides-not, decides-unless, decides-iff, decides-le, decides-either, stable}
 use Rattle.rules.proofs.Guards.{not-refused}
 use Rattle.rules.proofs.Bounds.{header-sized, open-sized}
 use Rattle.rules.proofs.Zones.{children-are, fields-are, trees-are, cpus-are, opening-is, settled-is}

@@ -1,35 +1,33 @@
 -- Frames that blocks cover; and an open zone in which nothing is under way: taken and free frames are what the history leaves, and the zone is settled.
-use mathlib.Core.Path.{_≡_, refl, sym, ap, _∙_, subst}
-use mathlib.Core.Logic.{_≢_}
+use mathlib.Core.Path.{_≡_, refl, sym, ap, _∙_}
 use mathlib.Core.Bool.{true, _&&_}
-use mathlib.Core.List.{List, [], _∷_, _++_}
-use Prim.Native.Nat.{ℕ, zero, suc, _+_, _-_, _*_, _/_, _%_, _≤_, _<_}
+use mathlib.Core.List.{List, [], _∷_}
+use Prim.Native.Nat.{ℕ, zero, suc, _+_, _-_, _*_, _/_, _≤_, _<_}
 use native.Mathlib.Omega.{arith}
 use native.Mathlib.Decide.{ℕ-discrete, decLt}
 use lib.ListN.{length, getD}
 use borrow.Author.Tests.{eq-eqb}
-use Rattle.laws.specs.Tests.{pick, Passes}
-use Rattle.laws.specs.Sum.{sumTo, sumL, run, at}
+use Rattle.laws.specs.Sum.{sumTo, sumL, at}
 use Rattle.laws.proofs.Tests.{pick-elim, pick-yes, pick-no, both-and, every-all}
 use Rattle.laws.proofs.Sum.{run-in, run-below, run-above, at-same, at-other, sum-ext, sum-zero, sum-groups}
 use Rattle.laws.proofs.Parts.{part-at}
-use Rattle.rules.specs.Types.{Tree, Order, Block, CpuEntry, TreeEntry, Record}
+use Rattle.rules.specs.Types.{Order, Block}
 use Rattle.rules.specs.Numbers.{childFrames, Shape, perTree, treesOf, childrenOf, capacity}
 use Rattle.rules.specs.Conversions.{huge, tree}
-use Rattle.rules.specs.Blocks.{size, sizeOf}
-use Rattle.rules.specs.Lower.{wellFormed, isFlagged, countIn, zeroBits, emptyField, partSum}
-use Rattle.rules.specs.Zone.{Zone, shaped, cpuEntryAt, childPart}
-use Rattle.rules.specs.Plan.{byTree, byCpu}
+use Rattle.rules.specs.Blocks.{size}
+use Rattle.rules.specs.Lower.{wellFormed, isFlagged, countIn, emptyField, partSum}
+use Rattle.rules.specs.Zone.{Zone, shaped, cpuEntryAt}
+use Rattle.rules.specs.Plan.{byTree}
 use Rattle.rules.specs.Open.{childAt, childrenFormed, flagsEmpty, treesFormed, cpusFormed, childSettled, treeCount, cpuCount, childCount, treeSettled, settled}
 use Rattle.rules.specs.Events.{Cpu, resting}
 use Rattle.rules.specs.Promise.{covers, covered, takenAt, ownedBy}
 use Rattle.rules.proofs.Guards.{cpu-elim}
 use Rattle.rules.proofs.Shapes.{child-in}
 use Rattle.rules.proofs.Fresh.{child-at}
-use Rattle.rules.proofs.Own.{freeOf, Survived, taken-owned, owned-once, free-unowned, owned-survived}
+use Rattle.rules.proofs.Own.{freeOf, Survived, taken-owned, free-unowned, owned-survived}
 use Rattle.rules.proofs.Shares.{baseOf, wholeOf, share, lowOf, owed}
 use Rattle.rules.proofs.Upper.{entryAt, tallyAt}
-use Rattle.rules.proofs.Invariant.{BlockIn, AllIn, weighs, freeTree, Up}
+use Rattle.rules.proofs.Invariant.{AllIn, weighs, freeTree, Up}
 use Rattle.rules.proofs.Readings.{tree-says}
 use Rattle.rules.proofs.Phases.{weighed, zeros-at}
 

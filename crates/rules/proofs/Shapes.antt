@@ -1,6 +1,6 @@
 -- A shape's trees and children: the laws of tree arithmetic, for `treesOf` and `childrenOf`.
-use mathlib.Core.Path.{_≡_, refl, sym, ap, _∙_}
-use Prim.Native.Nat.{ℕ, zero, suc, _+_, _-_, _*_, _/_, _%_, _≤_, _<_, min}
+use mathlib.Core.Path.{_≡_, sym, ap, _∙_}
+use Prim.Native.Nat.{ℕ, _+_, _-_, _*_, _/_, _%_, _≤_, _<_}
 use native.Mathlib.Omega.{arith}
 use Rattle.laws.specs.Sum.{sumTo, at}
 use Rattle.laws.proofs.Sum.{sum-single, sum-zero, at-same, at-other, here, elsewhere, placed}

@@ -1,16 +1,16 @@
 -- What an operation under way contributes, by its record: what it owns, what it is owed, what it keeps reserved, and what its CPU's entry may be.
 use mathlib.Core.Path.{_≡_}
-use mathlib.Core.List.{List, [], _∷_, _++_}
-use Prim.Native.Nat.{ℕ, zero, suc, _+_, _*_, _≤_}
+use mathlib.Core.List.{List, []}
+use Prim.Native.Nat.{ℕ, _+_, _*_, _≤_}
 use Rattle.laws.specs.Tests.{Passes}
-use Rattle.laws.specs.Sum.{sumTo, sumL, run, at}
-use Rattle.rules.specs.Types.{Frame, Huge, Tree, Order, Block, CpuEntry, Pass, Found, Place, Taking, Giving, Record}
+use Rattle.laws.specs.Sum.{run, at}
+use Rattle.rules.specs.Types.{Tree, Order, Block, CpuEntry, Place, Taking, Giving, Record}
 use Rattle.rules.specs.Numbers.{Shape, perTree}
 use Rattle.rules.specs.Blocks.{size, sizeOf, treeOfBlock, hugeOfBlock}
 use Rattle.rules.specs.Plan.{Mark, byCpu}
 use Rattle.rules.specs.Ranges.{takingIn, givingIn}
 use Rattle.rules.specs.Places.{foundTree, placeTree}
-use Rattle.rules.specs.Events.{Begun, idle, getting, putting, Cpu, resting, orderOfBlock, taken, unlessCleared}
+use Rattle.rules.specs.Events.{Begun, idle, getting, putting, Cpu, orderOfBlock, taken, unlessCleared}
 use Rattle.rules.specs.Promise.{ownedBy}
 
 -- ---- what a block covers, as base frames and as whole children

@@ -1,34 +1,34 @@
 -- A stage of a get or put answers 12 where the entry that it reads, or would store, is damaged, 6 where the block is not taken, and goes on otherwise.
-use mathlib.Core.Path.{_≡_, refl, sym, ap, _∙_, subst}
+use mathlib.Core.Path.{_≡_, refl, ap, subst}
 use mathlib.Core.Logic.{_⊎_, inl, inr, _≢_}
-use mathlib.Core.Bool.{Bool, true, false, not, _&&_}
-use mathlib.Core.List.{List, [], _∷_, _++_}
-use Prim.Native.Nat.{ℕ, zero, suc, _+_, _-_, _*_, _/_, _%_, _^_, _≤_, _<_}
+use mathlib.Core.Bool.{Bool, _&&_}
+use mathlib.Core.List.{[]}
+use Prim.Native.Nat.{ℕ, suc, _+_, _-_, _/_, _%_, _^_, _≤_, _<_}
 use native.Mathlib.Omega.{arith}
 use native.Mathlib.Decide.{decLe}
 use lib.Dec.{eqb, leb, ltb}
 use lib.ListN.{getD}
-use borrow.Author.Tests.{eqb-true, eqb-false, leb-true, leb-false, le-leb, lt-leb}
+use borrow.Author.Tests.{eqb-true, eqb-false, leb-true, leb-false}
 use Rattle.laws.specs.Tests.{pick, passes, Passes}
 use Rattle.laws.specs.Words.{bit, bits}
-use Rattle.laws.proofs.Tests.{pick-elim, pick-yes, pick-no, true-false, passes-left, passes-right, passes-of, all-passed}
-use Rattle.rules.specs.Types.{Frame, Huge, Tree, Order, Block, ChildEntry, TreeEntry, CpuEntry, Took, Bit, Gave, Pass, Found, Place, Taking, Giving, Record, Answer}
-use Rattle.rules.specs.Numbers.{childFrames, childWords, Shape, perTree, treesOf, childrenOf, capacity}
+use Rattle.laws.proofs.Tests.{pick-elim, passes-left, passes-right, all-passed}
+use Rattle.rules.specs.Types.{Tree, Order, Block, ChildEntry, TreeEntry, CpuEntry, Took, Bit, Gave, Place, Taking, Giving, Record, Answer}
+use Rattle.rules.specs.Numbers.{childFrames, childWords, Shape, perTree, treesOf, capacity}
 use Rattle.rules.specs.Conversions.{tree, huge}
 use Rattle.rules.specs.Blocks.{size, sizeOf, treeOfBlock, childOfBlock, hugeOfBlock}
 use Rattle.rules.specs.Answers.{number}
 use Rattle.rules.specs.Entries.{holdsChecks}
 use Rattle.rules.specs.Lower.{Lowered, told, changed, childSays, byChild, claim, takeHuge, giveCount, clearHuge, takeRun, clearRun}
 use Rattle.rules.specs.Zone.{Zone, Store, treeEntryAt, cpuEntryAt, childPart, wordPart}
-use Rattle.rules.specs.Plan.{Mark, plain, Plan, says, refuse, Made, look, store, Tally, tally, Step, noEntry, cpuEntry, treeEntry, childEntry, wordEntry, laidOut, toCpu, toTree, toChild, toWord, carried, byChange, byCpu, byTook, byBit, byGave, onTook, onBit, onGave}
-use Rattle.rules.specs.Ranges.{takingIn, givingIn, blockIn, placeIn, foundIn, passIn}
+use Rattle.rules.specs.Plan.{Mark, plain, Plan, says, refuse, Made, look, store, Tally, tally, noEntry, cpuEntry, treeEntry, childEntry, wordEntry, laidOut, toCpu, toTree, toChild, toWord, carried, byChange, byCpu, byTook, byBit, byGave, onTook, onBit, onGave}
+use Rattle.rules.specs.Ranges.{takingIn, givingIn, blockIn, foundIn}
 use Rattle.rules.specs.Places.{classOf, fits, passTree, foundTree, placeTree}
-use Rattle.rules.specs.Take.{get, ifOwnHolds, claimOwn, release, write, stealCount, nextChild, searchChild, searchWord, take}
+use Rattle.rules.specs.Take.{ifOwnHolds, claimOwn, release, write, stealCount, nextChild, searchChild, searchWord, take}
 use Rattle.rules.specs.Give.{clear, give}
-use Rattle.rules.specs.Refusals.{First, Quiet, Broken, cpuAt, treeAt, CpuPasses, TreePasses, ChildPasses, childEntryAt, Damage, NotTaken, entryRules, StepElse, NoRoomAt}
-use Rattle.rules.proofs.Guards.{look-plan, absent-plan, holds-plan, tree-look-plan, cpu-elim, tree-elim, child-elim, change-elim, holds-in, count-in}
+use Rattle.rules.specs.Refusals.{First, Quiet, CpuPasses, TreePasses, ChildPasses, childEntryAt, Damage, NotTaken, entryRules, StepElse}
+use Rattle.rules.proofs.Guards.{look-plan, absent-plan, holds-plan, tree-look-plan, cpu-elim, tree-elim, child-elim, holds-in, count-in}
 use Rattle.rules.proofs.Falls.{found-tree}
-use Rattle.rules.proofs.Shapes.{kids-some, tree-in, number-in}
+use Rattle.rules.proofs.Shapes.{kids-some, number-in}
 
 clash : {A : Type 0} (e : CpuEntry) (t : Tree) (s k : ℕ) → e ≡ CpuEntry.Holds t s k → e ≡ CpuEntry.Damaged → A
 clash e t s k p q = let z : _≡_ {A = ℕ} 0 1 = cc in absurd (omega arith)

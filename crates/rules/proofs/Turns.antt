@@ -1,22 +1,22 @@
 -- What each admitted event does to the invariant: opens and cuts, beginnings, steps.
 use mathlib.Core.Path.{_≡_, refl, sym, ap, _∙_, subst}
-use mathlib.Core.Logic.{_⊎_, inl, inr, _≢_}
-use mathlib.Core.Bool.{Bool, true, false}
+use mathlib.Core.Logic.{_⊎_, inl, inr}
+use mathlib.Core.Bool.{true, false}
 use mathlib.Core.List.{List, [], _∷_, _++_}
 use Prim.Native.Nat.{ℕ, zero, suc, _+_, _*_, _≤_, _<_}
 use native.Mathlib.Omega.{arith}
 use native.Mathlib.Decide.{ℕ-discrete, decLt}
 use lib.ListN.{length, getD, length-set}
-use Rattle.laws.specs.Tests.{pick, Passes}
+use Rattle.laws.specs.Tests.{pick}
 use Rattle.laws.specs.Sum.{sumTo, sumL, upd}
 use Rattle.laws.proofs.Tests.{pick-yes, pick-no}
 use Rattle.laws.proofs.Sum.{sum-ext, sum-upd, sumL-append, upd-at, upd-other, map-upd}
-use Rattle.rules.specs.Types.{Block, Header, Taking, Giving, Opening, Record, Answer}
+use Rattle.rules.specs.Types.{Block, Taking, Giving, Record, Answer}
 use Rattle.rules.specs.Numbers.{mostCpus, format1, Shape, perTree, treesOf, childrenOf}
 use Rattle.rules.specs.Conversions.{huge}
 use Rattle.rules.specs.Answers.{recordOf}
 use Rattle.rules.specs.Entries.{headerWord, running, clean, treeWord}
-use Rattle.rules.specs.Lower.{isFlagged, countIn, zeroBits, recount}
+use Rattle.rules.specs.Lower.{isFlagged, countIn, zeroBits}
 use Rattle.rules.specs.Zone.{Zone, headerOf, headerHuge, shaped, shapeOf, Store, stored}
 use Rattle.rules.specs.Plan.{Plan}
 use Rattle.rules.specs.Checks.{isRunning}
@@ -30,7 +30,7 @@ use Rattle.rules.specs.Promise.{ownedBy}
 use Rattle.rules.proofs.Shapes.{child-in, some-tree}
 use Rattle.rules.proofs.Layouts.{format1-sound, clean-again}
 use Rattle.rules.proofs.Fields.{zero-bits, recounted}
-use Rattle.rules.proofs.Fresh.{header-is, child-at, Accepts, Good, At, Whole, Opens, total, first, next, at-good}
+use Rattle.rules.proofs.Fresh.{header-is, child-at, Accepts, Whole, Opens, total, first, next, at-good}
 use Rattle.rules.proofs.Own.{freeOf, owned-same}
 use Rattle.rules.proofs.Shares.{baseOf, wholeOf, lowOf, owed, reserves, Wanted, want, Proper, AgreesWith, Agrees}
 use Rattle.rules.proofs.Upper.{entryAt, record-changed}
@@ -38,7 +38,7 @@ use Rattle.rules.proofs.Invariant.{weighs, freeTree, Up, answered, late
 use Rattle.rules.proofs.Readings.{step-is}
 use Rattle.rules.proofs.Gets.{get-kept}
 use Rattle.rules.proofs.Puts.{put-kept}
-use Rattle.rules.proofs.Phases.{lost-told, lost-weighs, weighed, Kept, kept-same, Counted, Down, Op, still, cut-kept, zeros-at, down-huge, accepted, from-at, now-child, good-kept, good-down, up-still}
+use Rattle.rules.proofs.Phases.{lost-told, lost-weighs, weighed, Kept, kept-same, Counted, Down, Op, still, cut-kept, zeros-at, down-huge, accepted, now-child, good-kept, good-down, up-still}
 
 -- ---- an open that has finished
 

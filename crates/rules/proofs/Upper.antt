@@ -1,25 +1,23 @@
 -- The upper level's invariant: trees, CPU entries and records add up to the free frames F of each tree. It knows no word and no child.
 use mathlib.Core.Path.{_≡_, refl, sym, ap, _∙_, subst}
 use mathlib.Core.Logic.{_≢_}
-use mathlib.Core.Bool.{Bool, true, false}
 use mathlib.Core.List.{List, [], _∷_}
-use Prim.Native.Nat.{ℕ, zero, suc, _+_, _-_, _*_, _≤_, _<_}
+use Prim.Native.Nat.{ℕ, _+_, _-_, _≤_, _<_}
 use native.Mathlib.Omega.{arith}
 use native.Mathlib.Nat.{zero-add}
 use native.Mathlib.Decide.{ℕ-discrete}
 use lib.ListN.{length, getD, set, length-set}
 use lib.Seq.{getD-set-same, getD-set-other}
-use Rattle.laws.specs.Tests.{Passes}
 use Rattle.laws.specs.Fields.{Fit}
 use Rattle.laws.specs.Sum.{sumTo, at, upd}
-use Rattle.laws.proofs.Sum.{sum-upd, sum-set, set-at, upd-at, upd-other, upd-all}
-use Rattle.rules.specs.Types.{Tree, CpuEntry, TreeEntry, Record}
-use Rattle.rules.specs.Numbers.{mostHuge, Shape, perTree, treesOf, childrenOf, capacity}
-use Rattle.rules.specs.Entries.{field, treeLayout, treeWord, treeSays, holdsChecks, cpuSays, cpuWord}
+use Rattle.laws.proofs.Sum.{sum-upd, sum-set, set-at, upd-at, upd-other}
+use Rattle.rules.specs.Types.{CpuEntry, Record}
+use Rattle.rules.specs.Numbers.{Shape, treesOf, capacity}
+use Rattle.rules.specs.Entries.{field, treeLayout, treeWord, cpuSays, cpuWord}
 use Rattle.rules.specs.Plan.{byCpu}
 use Rattle.rules.specs.Layouts.{Sound}
 use Rattle.rules.proofs.Shapes.{kids-most}
-use Rattle.rules.proofs.Layouts.{field-join, tally-again, holds-again, absent-again}
+use Rattle.rules.proofs.Layouts.{field-join, absent-again}
 use Rattle.rules.proofs.Shares.{share, has, owed, reserves, Want, anything, mine, gone, Wanted, want, Proper}
 
 -- ---- what the tables say

@@ -2,7 +2,7 @@
 use mathlib.Core.Path.{_≡_, refl, sym, ap, _∙_, subst}
 use lib.ListN.{length}
 use Rattle.laws.specs.Fields.{width, join}
-use Rattle.rules.specs.Numbers.{format1, Shape}
+use Rattle.rules.specs.Numbers.{format1}
 use Rattle.rules.specs.Entries.{headerWord, cpuWord}
 use Rattle.rules.specs.Zone.{Zone, shaped}
 use Rattle.rules.specs.Create.{createSteps}

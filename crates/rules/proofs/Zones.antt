@@ -1,25 +1,24 @@
 -- What open and close look at, decided: damaged entries, fields under a flag, and whether the zone is settled.
-use mathlib.Core.Path.{_≡_, refl, sym, ap, _∙_, subst}
-use mathlib.Core.Logic.{_⊎_, inl, inr, _≢_}
-use mathlib.Core.Bool.{Bool, true, false, not, _&&_}
-use mathlib.Core.List.{List, [], _∷_}
-use Prim.Native.Nat.{ℕ, zero, suc, _+_, _*_, _≤_, _<_}
+use mathlib.Core.Path.{_≡_, refl, sym, _∙_}
+use mathlib.Core.Bool.{Bool, true, false, not}
+use mathlib.Core.List.{[]}
+use Prim.Native.Nat.{ℕ, _+_}
 use native.Mathlib.Omega.{arith}
 use lib.Dec.{eqb}
 use lib.ListN.{getD}
 use borrow.Author.Tests.{not-true, not-false}
-use Rattle.laws.specs.Tests.{pick, every}
+use Rattle.laws.specs.Tests.{pick}
 use Rattle.laws.specs.Sum.{sumTo}
-use Rattle.laws.proofs.Tests.{pick-elim, true-false}
-use Rattle.rules.specs.Types.{Huge, Tree, ChildEntry, TreeEntry, CpuEntry, Header, Opening, Record}
-use Rattle.rules.specs.Numbers.{Shape, treesOf, childrenOf}
+use Rattle.laws.proofs.Tests.{true-false}
+use Rattle.rules.specs.Types.{ChildEntry, TreeEntry, CpuEntry, Opening, Record}
+use Rattle.rules.specs.Numbers.{Shape, treesOf}
 use Rattle.rules.specs.Conversions.{huge, tree}
 use Rattle.rules.specs.Lower.{childSays, byChild, wellFormed, isFlagged, countIn}
 use Rattle.rules.specs.Zone.{Zone, childPart, treeEntryAt, cpuEntryAt}
 use Rattle.rules.specs.Plan.{byTree, byCpu}
 use Rattle.rules.specs.Open.{childAt, zerosAt, emptyAt, childrenFormed, flagsEmpty, treesFormed, cpusFormed, childSettled, treeCount, cpuCount, childCount, treeSettled, settled, openingSound, openStepSound}
-use Rattle.rules.specs.Refusals.{BadChild, BadField, BadTree, BadCpu, BadOpening, Settled, childEntryAt}
-use Rattle.rules.proofs.Lists.{Decides, decides-iff, decides-some, decides-all, decides-eq, decides-both, decides-not}
+use Rattle.rules.specs.Refusals.{BadChild, BadField, BadTree, BadCpu, BadOpening, Settled}
+use Rattle.rules.proofs.Lists.{Decides, decides-iff, decides-some, decides-all, decides-eq, decides-both}
 
 -- ---- one entry
 

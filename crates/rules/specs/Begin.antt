@@ -1,10 +1,10 @@
 -- Beginnings: 9, 10, 8, 7, 3, 4, 5. A refused beginning begins nothing.
-use mathlib.Core.Bool.{Bool, true, false, not, _&&_}
-use mathlib.Core.List.{List, [], _∷_, _++_}
-use Prim.Native.Nat.{ℕ, zero, suc, _+_, _*_, _%_}
+use mathlib.Core.Bool.{Bool, true, not}
+use mathlib.Core.List.{[], _∷_, _++_}
+use Prim.Native.Nat.{ℕ, _+_, _*_, _%_}
 use lib.Dec.{eqb, leb}
 use Rattle.laws.specs.Tests.{pick}
-use Rattle.rules.specs.Numbers.{childFrames, Shape}
+use Rattle.rules.specs.Numbers.{childFrames}
 use Rattle.rules.specs.Blocks.{size, blockAt}
 use Rattle.rules.specs.Zone.{Zone, shapeOf, nothing}
 use Rattle.rules.specs.Plan.{Plan, says, Refusal, on, guarded}

@@ -1,9 +1,6 @@
 -- Orders and blocks: their sizes, where they begin, and the tree and child that they lie in.
-use mathlib.Core.Bool.{Bool, true, false}
 use Prim.Native.Nat.{ℕ, _+_, _*_, _/_, _%_}
-use lib.Dec.{eqb}
-use Rattle.laws.specs.Tests.{pick}
-use Rattle.rules.specs.Numbers.{childFrames, childWords, wordBits, Shape, perTree}
+use Rattle.rules.specs.Numbers.{childFrames, wordBits, Shape, perTree}
 use Rattle.rules.specs.Conversions.{frame, hugeOf, firstFrame, treeOf, childOf}
 use Rattle.rules.specs.Types.{Frame, Huge, Tree, Order, Block}
 

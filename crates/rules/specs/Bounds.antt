@@ -1,18 +1,16 @@
 -- The step bounds. A measure falls at every step of a get or put, whatever the tables hold: a get ends within 330 (3 trees + CPUs + 33) steps, a put within 4.
 use mathlib.Core.Path.{_≡_}
-use mathlib.Core.Bool.{Bool, true, false}
-use Prim.Native.Nat.{ℕ, zero, suc, pred, _+_, _-_, _*_, _/_, _%_, _≤_, _<_}
+use Prim.Native.Nat.{ℕ, zero, suc, pred, _+_, _-_, _*_, _%_, _<_}
 use lib.Dec.{ltb}
 use Rattle.laws.specs.Tests.{pick, Passes}
-use Rattle.rules.specs.Types.{Order, Pass, Found, Place, Taking, Giving, Record, Answer, Frame}
+use Rattle.rules.specs.Types.{Pass, Found, Place, Taking, Giving, Record, Answer, Frame}
 use Rattle.rules.specs.Numbers.{childWords, nearTrees, Shape, perTree, treesOf, childrenOf}
 use Rattle.rules.specs.Answers.{nextOf, byNext}
 use Rattle.rules.specs.Zone.{Zone, shapeOf}
-use Rattle.rules.specs.Plan.{Plan}
 use Rattle.rules.specs.Ranges.{stepRange}
 use Rattle.rules.specs.Places.{placeTree}
 use Rattle.rules.specs.Begin.{beginGet, beginPut}
-use Rattle.rules.specs.Step.{step, searchSteps, mostGet, mostPut, Ran, follow}
+use Rattle.rules.specs.Step.{step, searchSteps, mostGet, mostPut, follow}
 
 module _ (g : Shape) where
   -- the places from this one on

@@ -1,7 +1,7 @@
 -- The checks that calls share, as refusals in document 01's order: 9, 10, 8; and 8 for the header slice's length before a 9.
 use mathlib.Core.Bool.{Bool, true, false, not}
-use mathlib.Core.List.{List, [], _∷_, _++_}
-use Prim.Native.Nat.{ℕ, zero, suc, _+_, _*_}
+use mathlib.Core.List.{List, [], _∷_}
+use Prim.Native.Nat.{suc, _*_}
 use lib.ListN.{length}
 use Rattle.laws.specs.Tests.{Check, _below_, _is_, passes}
 use Rattle.rules.specs.Numbers.{childWords, mostCpus, Shape, treesOf}

@@ -1,8 +1,8 @@
 -- Frame, huge-frame and tree numbers count different things: the conversions between them.
-use Prim.Native.Nat.{ℕ, _+_, _*_, _/_, _%_, _^_}
+use Prim.Native.Nat.{ℕ, _*_, _/_, _%_, _^_}
 use lib.Dec.{ltb}
 use Rattle.laws.specs.Tests.{pick}
-use Rattle.rules.specs.Numbers.{childFrames, wordBits, Format}
+use Rattle.rules.specs.Numbers.{childFrames, Format}
 use Rattle.rules.specs.Types.{Frame, Huge, Tree, HugeAt, TreeAt}
 
 abbrev pub frame : ℕ → Frame

@@ -1,9 +1,7 @@
 -- Create: header 0; words, children, trees, CPUs ascending; header running last. First step: 14, 8; later steps: 14, 8, 11.
-use mathlib.Core.Bool.{Bool, true, false, not}
 use mathlib.Core.List.{List, [], _∷_, _++_}
-use Prim.Native.Nat.{ℕ, zero, suc, _+_, _*_}
+use Prim.Native.Nat.{ℕ, suc, _+_, _*_}
 use lib.Dec.{ltb}
-use lib.ListN.{length}
 use Rattle.laws.specs.Tests.{pick, Check, _below_}
 use Rattle.rules.specs.Numbers.{childWords, mostHuge, Shape, treesOf, capacity}
 use Rattle.rules.specs.Conversions.{frame, huge, tree}

@@ -1,7 +1,6 @@
 -- The upper level's packed entries: what a header, a tree and a CPU entry say, and the words that say it.
-use mathlib.Core.Bool.{Bool, true, false}
 use mathlib.Core.List.{List, [], _∷_}
-use Prim.Native.Nat.{ℕ, zero, suc, _+_, _-_}
+use Prim.Native.Nat.{ℕ, suc, _+_, _-_}
 use lib.Dec.{eqb, leb}
 use lib.ListN.{getD}
 use Rattle.laws.specs.Tests.{pick, Check, _below_, _is_, passes}

@@ -1,14 +1,10 @@
 -- Histories: what the CPUs, the closer, the opener and the power may do, in any order. Every call is the rule's own definition.
 use mathlib.Core.Path.{_≡_}
-use mathlib.Core.Logic.{_≢_}
-use mathlib.Core.Bool.{Bool, true, false}
 use mathlib.Core.List.{List, [], _∷_, _++_}
 use Prim.Native.Nat.{ℕ, zero, suc, _≤_, _<_}
-use lib.Dec.{eqb}
 use lib.ListN.{length, getD}
-use Rattle.laws.specs.Tests.{pick}
 use Rattle.laws.specs.Sum.{upd}
-use Rattle.rules.specs.Types.{Frame, Order, Block, Record, Answer}
+use Rattle.rules.specs.Types.{Order, Block, Record, Answer}
 use Rattle.rules.specs.Numbers.{mostCpus, treesOf}
 use Rattle.rules.specs.Conversions.{frame}
 use Rattle.rules.specs.Blocks.{firstOf, blockAt}

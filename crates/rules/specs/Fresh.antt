@@ -1,8 +1,7 @@
 -- Create run to its end leaves the fresh zone; while it is under way the header is 0, and every other call answers 9. An open that is not refused ends, in its steps.
 use mathlib.Core.Path.{_≡_}
-use mathlib.Core.Bool.{Bool, true, false}
 use mathlib.Core.List.{List, [], _∷_}
-use Prim.Native.Nat.{ℕ, zero, suc, _+_, _*_, _<_}
+use Prim.Native.Nat.{ℕ, zero, suc, _*_, _<_}
 use lib.ListN.{replicate}
 use Rattle.laws.specs.Tests.{pick, Passes}
 use Rattle.rules.specs.Types.{Frame, Record, Answer}

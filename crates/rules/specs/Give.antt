@@ -1,14 +1,11 @@
 -- Giving back: what each stage of a put does with the one entry that it reads.
-use mathlib.Core.Bool.{Bool, true, false}
-use Prim.Native.Nat.{ℕ, zero, suc, _+_, _-_, _*_}
-use lib.Dec.{eqb}
-use Rattle.laws.specs.Tests.{pick}
+use Prim.Native.Nat.{ℕ, _+_, _*_}
 use Rattle.rules.specs.Numbers.{childWords, Shape}
 use Rattle.rules.specs.Blocks.{size, sizeOf, firstOf, treeOfBlock, childOfBlock, wordOf, bitOf}
 use Rattle.rules.specs.Lower.{giveCount, clearHuge, clearRun}
-use Rattle.rules.specs.Plan.{plain, clears, Made, look, store, tally, Step, cpuEntry, treeEntry, childEntry, wordEntry, onGave}
+use Rattle.rules.specs.Plan.{plain, clears, look, store, tally, Step, treeEntry, childEntry, wordEntry, onGave}
 use Rattle.rules.specs.Take.{ifOwnHolds}
-use Rattle.rules.specs.Types.{Frame, Huge, Tree, Order, Block, CpuEntry, Giving, Record, Answer}
+use Rattle.rules.specs.Types.{Order, Block, CpuEntry, Giving, Record, Answer}
 
 module _ (g : Shape) (cpu : ℕ) where
   abbrev pub put : Giving → Answer

@@ -1,8 +1,8 @@
 -- Packed entries: split after join gives the fields, join after split the word; what is stored is read again; and what "breaks its layout" means.
 use mathlib.Core.Path.{_≡_}
-use mathlib.Core.Logic.{_⊎_, _↔_, _≢_}
-use mathlib.Core.List.{List, [], _∷_}
-use Prim.Native.Nat.{ℕ, zero, suc, _+_, _*_, _^_, _≤_, _<_}
+use mathlib.Core.Logic.{_⊎_, _↔_}
+use mathlib.Core.List.{List, []}
+use Prim.Native.Nat.{ℕ, _+_, _*_, _^_, _≤_, _<_}
 use Rattle.laws.specs.Tests.{Passes}
 use Rattle.laws.specs.Fields.{width, split, join, Fit}
 use Rattle.rules.specs.Types.{Tree, Header, ChildEntry, TreeEntry, CpuEntry}

@@ -4,9 +4,9 @@ use mathlib.Core.List.{List, [], _∷_}
 use Prim.Native.Nat.{ℕ, zero, suc, _+_, _-_, _*_, _/_, _^_}
 use lib.Dec.{eqb, leb, ltb}
 use lib.ListN.{getD}
-use Rattle.laws.specs.Tests.{pick, Check, _below_, _is_, passes}
+use Rattle.laws.specs.Tests.{pick, _below_, _is_, passes}
 use Rattle.laws.specs.Sum.{sumTo}
-use Rattle.laws.specs.Fields.{split, join}
+use Rattle.laws.specs.Fields.{join}
 use Rattle.laws.specs.Words.{zeros, ones, bits, lowest}
 use Rattle.rules.specs.Numbers.{childFrames, childWords, wordBits}
 use Rattle.rules.specs.Entries.{field}

@@ -1,5 +1,5 @@
 -- The sizes of document 01, each named once; a zone's shape.
-use Prim.Native.Nat.{ℕ, zero, suc, _+_, _-_, _*_, _/_, min}
+use Prim.Native.Nat.{ℕ, _+_, _-_, _*_, _/_, min}
 
 -- frames a child (a huge frame), words a child, bits a word
 abbrev pub childFrames : ℕ

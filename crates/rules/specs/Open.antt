@@ -1,17 +1,17 @@
 -- Open and close. Open: 9, 8, 12; its later steps: 9, 10, 8, 11, 12. Close: 9, 10, 8, 12, 13.
 use mathlib.Core.Bool.{Bool, true, false, not, _&&_}
-use mathlib.Core.List.{List, [], _∷_, _++_}
-use Prim.Native.Nat.{ℕ, zero, suc, _+_, _*_}
-use lib.Dec.{eqb, leb, ltb}
-use lib.ListN.{length, getD}
+use mathlib.Core.List.{[], _∷_, _++_}
+use Prim.Native.Nat.{ℕ, suc, _+_}
+use lib.Dec.{eqb, ltb}
+use lib.ListN.{getD}
 use Rattle.laws.specs.Tests.{pick, every}
 use Rattle.laws.specs.Sum.{sumTo}
-use Rattle.rules.specs.Numbers.{Shape, perTree, treesOf, childrenOf}
-use Rattle.rules.specs.Conversions.{frame, huge, tree, treeOf, childOf}
+use Rattle.rules.specs.Numbers.{Shape, treesOf, childrenOf}
+use Rattle.rules.specs.Conversions.{huge, tree, treeOf, childOf}
 use Rattle.rules.specs.Entries.{headerWord, running, clean}
 use Rattle.rules.specs.Lower.{wellFormed, isFlagged, countIn, recount, zeroBits, emptyField, partSum}
 use Rattle.rules.specs.Zone.{Zone, headerOf, shapeOf, childPart, wordPart, treeEntryAt, cpuEntryAt, Store}
-use Rattle.rules.specs.Plan.{Plan, says, refuse, Refusal, on, guarded, byCpu, byTree}
+use Rattle.rules.specs.Plan.{Plan, says, refuse, on, guarded, byCpu, byTree}
 use Rattle.rules.specs.Checks.{unless, noHeader, notAZone, badBuffers, isRunning, notOpen}
 use Rattle.rules.specs.Ranges.{openRange}
 use Rattle.rules.specs.Create.{done}

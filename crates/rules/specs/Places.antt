@@ -1,7 +1,7 @@
 -- Classes, the passes and the order of places (rules 3, 4 and 7): the next place never looks at a table.
 use mathlib.Core.Bool.{Bool, true, false, _&&_}
-use Prim.Native.Nat.{ℕ, zero, suc, _+_, _*_, _/_}
-use lib.Dec.{eqb, leb, ltb}
+use Prim.Native.Nat.{ℕ, suc, _*_, _/_}
+use lib.Dec.{eqb, ltb}
 use Rattle.laws.specs.Tests.{pick}
 use Rattle.rules.specs.Numbers.{nearTrees, Shape, treesOf}
 use Rattle.rules.specs.Conversions.{tree}

@@ -1,7 +1,7 @@
 -- A call as a plan: the answer, and at most one store. Refusals are an ordered list; a step reads one entry and changes it or not.
 use mathlib.Core.Bool.{Bool, true, false}
 use mathlib.Core.List.{List, [], _∷_}
-use Prim.Native.Nat.{ℕ, zero, suc, _+_, _*_}
+use Prim.Native.Nat.{ℕ, _+_, _*_}
 use lib.Dec.{leb}
 use lib.ListN.{getD}
 use Rattle.laws.specs.Tests.{pick, passes}

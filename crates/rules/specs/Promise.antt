@@ -1,9 +1,8 @@
 -- Demand 3: what holds at every state that a history reaches.
 use mathlib.Core.Path.{_≡_}
 use mathlib.Core.Logic.{_⊎_}
-use mathlib.Core.Bool.{Bool, true, false}
-use mathlib.Core.List.{List, [], _∷_, _++_}
-use Prim.Native.Nat.{ℕ, zero, suc, _+_, _-_, _*_, _/_, _%_, _≤_, _<_}
+use mathlib.Core.List.{List, [], _∷_}
+use Prim.Native.Nat.{ℕ, _+_, _-_, _*_, _/_, _%_, _≤_, _<_}
 use lib.ListN.{length, getD}
 use Rattle.laws.specs.Tests.{pick}
 use Rattle.laws.specs.Sum.{sumTo, sumL, run}
@@ -17,7 +16,7 @@ use Rattle.rules.specs.Lower.{isFlagged, countIn}
 use Rattle.rules.specs.Zone.{Zone, shapeOf}
 use Rattle.rules.specs.Open.{childAt, treeCount, cpuCount}
 use Rattle.rules.specs.Fresh.{Fitting}
-use Rattle.rules.specs.Events.{Begun, idle, getting, putting, Cpu, lostOf, ready, State, cpusOf, heldAt, get, put, stepOf, close, openFirst, openLater, planned, Event, call, next, Idle, Called, Admitted, Reach}
+use Rattle.rules.specs.Events.{Begun, idle, getting, putting, lostOf, ready, State, cpusOf, heldAt, get, put, stepOf, close, openFirst, openLater, planned, Event, call, next, Idle, Called, Admitted, Reach}
 
 -- ---- frames, each counted as 1 or 0
 

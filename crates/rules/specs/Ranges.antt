@@ -1,9 +1,9 @@
 -- Which numbers a record may hold: outside of them, and at a finished or another operation's record, a step answers 11 (D1, D27 to D29).
 use mathlib.Core.List.{List, [], _∷_, _++_}
-use Prim.Native.Nat.{ℕ, zero, suc, _+_, _*_, _/_}
+use Prim.Native.Nat.{ℕ, suc, _+_, _*_, _/_}
 use Rattle.laws.specs.Tests.{Check, _below_, _is_, _isnt_}
 use Rattle.rules.specs.Numbers.{childFrames, childWords, nearTrees, Shape, treesOf, childrenOf, capacity}
-use Rattle.rules.specs.Places.{placeTree, foundTree, passTree}
+use Rattle.rules.specs.Places.{placeTree, foundTree}
 use Rattle.rules.specs.Types.{Frame, Huge, Tree, Block, Pass, Found, Place, Taking, Giving, Creating, Opening, Record}
 
 -- what nothing passes

@@ -1,25 +1,25 @@
 -- Each number's rule as a fact of the input, apart from the plans; and that a call answers the first number of its list whose rule holds.
 use mathlib.Core.Path.{_≡_}
 use mathlib.Core.Logic.{_⊎_, _≢_}
-use mathlib.Core.Bool.{Bool, true, false}
+use mathlib.Core.Bool.{false}
 use mathlib.Core.List.{List, [], _∷_, _++_}
-use Prim.Native.Nat.{ℕ, zero, suc, _+_, _*_, _%_, _≤_, _<_}
+use Prim.Native.Nat.{ℕ, _+_, _*_, _%_, _≤_, _<_}
 use lib.ListN.{length, getD}
 use Rattle.laws.specs.Tests.{Passes}
 use Rattle.laws.specs.Sum.{sumTo}
 use Rattle.laws.specs.Words.{bit}
-use Rattle.rules.specs.Types.{Frame, Huge, Tree, Block, ChildEntry, TreeEntry, CpuEntry, Taking, Giving, Opening, Record, Answer}
+use Rattle.rules.specs.Types.{Frame, Tree, Block, ChildEntry, TreeEntry, CpuEntry, Taking, Giving, Opening, Record}
 use Rattle.rules.specs.Numbers.{childFrames, childWords, Shape, treesOf, childrenOf, capacity}
 use Rattle.rules.specs.Conversions.{huge, tree}
 use Rattle.rules.specs.Blocks.{size, sizeOf, treeOfBlock, childOfBlock, wordOf, bitOf}
 use Rattle.rules.specs.Answers.{number}
 use Rattle.rules.specs.Entries.{headerChecks, markerOf, running, clean}
-use Rattle.rules.specs.Lower.{childSays, zeroBits, emptyField}
+use Rattle.rules.specs.Lower.{childSays}
 use Rattle.rules.specs.Zone.{Zone, shaped, shapeOf, childPart, wordPart, treeEntryAt, cpuEntryAt, nothing}
 use Rattle.rules.specs.Plan.{Plan}
 use Rattle.rules.specs.Checks.{lengthChecks}
 use Rattle.rules.specs.Ranges.{stepRange, createRange, openRange}
-use Rattle.rules.specs.Places.{passTree, foundTree, placeTree}
+use Rattle.rules.specs.Places.{passTree, placeTree}
 use Rattle.rules.specs.Begin.{beginGet, beginPut}
 use Rattle.rules.specs.Step.{step}
 use Rattle.rules.specs.Create.{sizeChecks, createZone, createStep}

@@ -1,9 +1,9 @@
 -- What a finished open leaves, over any tree and CPU tables; and that an open cut anywhere and opened again leaves the same.
 use mathlib.Core.Path.{_≡_}
 use mathlib.Core.Logic.{_⊎_}
-use mathlib.Core.Bool.{Bool, true, false}
+use mathlib.Core.Bool.{true}
 use mathlib.Core.List.{List, [], _∷_}
-use Prim.Native.Nat.{ℕ, zero, suc, _+_, _*_, _^_, _≤_, _<_}
+use Prim.Native.Nat.{ℕ, _+_, _*_, _^_, _≤_, _<_}
 use lib.ListN.{length, getD, replicate}
 use Rattle.laws.specs.Tests.{pick}
 use Rattle.laws.specs.Sum.{sumTo}
@@ -11,7 +11,7 @@ use Rattle.rules.specs.Types.{ChildEntry}
 use Rattle.rules.specs.Numbers.{mostCpus, Shape, perTree, treesOf, childrenOf}
 use Rattle.rules.specs.Conversions.{huge}
 use Rattle.rules.specs.Answers.{number}
-use Rattle.rules.specs.Entries.{headerWord, running, treeWord, markerOf}
+use Rattle.rules.specs.Entries.{headerWord, running, treeWord}
 use Rattle.rules.specs.Lower.{childSays, countIn, recount}
 use Rattle.rules.specs.Zone.{Zone, headerOf, shapeOf}
 use Rattle.rules.specs.Checks.{isRunning}

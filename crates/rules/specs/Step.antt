@@ -1,8 +1,7 @@
 -- A step of a get or put: 9, 10, 8, 11, then 12 or 6. And an operation run to its end alone.
-use mathlib.Core.Bool.{Bool, true, false}
-use mathlib.Core.List.{List, [], _∷_, _++_}
+use mathlib.Core.List.{[], _∷_, _++_}
 use Prim.Native.Nat.{ℕ, zero, suc, _+_, _*_}
-use Rattle.rules.specs.Numbers.{childWords, nearTrees, Format, Shape, perTree, treesOf}
+use Rattle.rules.specs.Numbers.{childWords, nearTrees, Shape, perTree, treesOf}
 use Rattle.rules.specs.Answers.{nextOf, byNext}
 use Rattle.rules.specs.Zone.{Zone, shapeOf, stored}
 use Rattle.rules.specs.Plan.{Plan, Step, noEntry, carried, guarded}

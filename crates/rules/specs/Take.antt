@@ -1,6 +1,6 @@
 -- Taking, rules 1 to 7: what each stage of a get does with the one entry that it reads.
-use mathlib.Core.Bool.{Bool, true, false, _&&_}
-use Prim.Native.Nat.{ℕ, zero, suc, _+_, _-_, _*_}
+use mathlib.Core.Bool.{_&&_}
+use Prim.Native.Nat.{ℕ, suc, _+_, _-_, _*_}
 use lib.Dec.{eqb, leb, ltb}
 use Rattle.laws.specs.Tests.{pick}
 use Rattle.rules.specs.Numbers.{childWords, Shape, perTree, childrenOf, capacity}
@@ -8,7 +8,7 @@ use Rattle.rules.specs.Conversions.{tree, huge}
 use Rattle.rules.specs.Blocks.{size, firstOf, treeOfBlock, childOfBlock, frameAt}
 use Rattle.rules.specs.Entries.{released, stolen}
 use Rattle.rules.specs.Lower.{claim, takeHuge, giveCount, takeRun}
-use Rattle.rules.specs.Plan.{Mark, plain, takes, Made, look, store, tally, Step, noEntry, cpuEntry, treeEntry, childEntry, wordEntry, onTook, onBit, onGave}
+use Rattle.rules.specs.Plan.{plain, takes, Made, look, store, tally, Step, noEntry, cpuEntry, treeEntry, childEntry, wordEntry, onTook, onBit, onGave}
 use Rattle.rules.specs.Places.{classOf, fits, passTree, foundTree, placeTree, afterPass, afterSteal, afterPlace}
 use Rattle.rules.specs.Types.{Tree, Order, Block, CpuEntry, Pass, Found, Place, Taking, Record, Answer}
 

@@ -1,8 +1,7 @@
 -- Document 01's sample words, its session worked by hand, and its class edges: one proved table.
 use mathlib.Core.Path.{_≡_}
-use mathlib.Core.Bool.{Bool, true, false}
 use mathlib.Core.List.{List, [], _∷_}
-use Prim.Native.Nat.{ℕ, _+_, _-_, _*_, _^_}
+use Prim.Native.Nat.{ℕ, _-_, _^_}
 use lib.ListN.{length, getD, replicate}
 use Rattle.rules.specs.Numbers.{childWords, wordBits, Shape, format1}
 use Rattle.rules.specs.Conversions.{frame, tree}

@@ -1,6 +1,6 @@
 -- A zone's five tables, the entries that a step reads, and the one that it stores.
-use mathlib.Core.List.{List, [], _∷_}
-use Prim.Native.Nat.{ℕ, zero, suc, _+_, _*_}
+use mathlib.Core.List.{List, []}
+use Prim.Native.Nat.{ℕ, _*_}
 use lib.ListN.{length, getD, set}
 use Rattle.laws.specs.Parts.{part}
 use Rattle.rules.specs.Numbers.{childWords, Format, format1, Shape, perTree, childrenOf}

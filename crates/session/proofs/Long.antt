@@ -1,5 +1,5 @@
 -- The long session, by computation.
-use mathlib.Core.Path.{_≡_, refl}
+use mathlib.Core.Path.{refl}
 use Rattle.rules.specs.Fresh.{fresh, listed}
 use Rattle.rules.specs.Worked.{session}
 use Rattle.rules.proofs.Computed.{by-computation}
