@@ -91,7 +91,7 @@ pub record Promise (s : State) : Type 0 where
   pub openLater : Called s openLater → number (planned s openLater .answer) ≤ 1
   -- with nothing under way, close answers Done
   pub closes : AtRest s → number (planned s close .answer) ≡ 0
-  -- an event adds at most one lost block per CPU; only a cut or a close answered Done adds any
+  -- a cut, a close, and so any event adds at most one lost block per CPU
   pub few : (e : Event) → Admitted s e → length (next s e .lost) ≤ length (s .lost) + cpusOf s
   -- the latest record tells the same of lost blocks
   pub told : (j : ℕ) → lostOf (s .cpus j) ≡ ownedBy (s .cpus j .latest)
