@@ -102,11 +102,11 @@ module _ (g : Shape) (k+ : 0 < perTree g) (n+ : 0 < g .huge) (cpu : ℕ) (l : cp
   unfolding toCome
   to-come t s c u v = pick-elim (λ x. (0 < x) × (x ≤ childrenOf g t)) (ltb c s) (λ b. let e = ltb-true c s b in omega arith) (λ b. let e = ltb-false c s b in omega arith)
 
-  come-low : (t s c : ℕ) → c < s → toCome g t s c ≡ s - c
+  pub come-low : (t s c : ℕ) → c < s → toCome g t s c ≡ s - c
   unfolding toCome
   come-low t s c h = pick-yes (ltb c s) _ _ (lt-ltb c s h)
 
-  come-high : (t s c : ℕ) → s ≤ c → toCome g t s c ≡ childrenOf g t - c + s
+  pub come-high : (t s c : ℕ) → s ≤ c → toCome g t s c ≡ childrenOf g t - c + s
   unfolding toCome
   come-high t s c h = pick-no (ltb c s) _ _ (le-ltb c s h)
 
