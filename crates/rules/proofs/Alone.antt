@@ -105,7 +105,7 @@ module _ (g : Shape) (j : ℕ) (o : Order) (z : Zone) where
 
   -- ---- the next place
 
-  steal-next : (i : ℕ) → Trees (treesOf g) → Gone i → So (pick (ltb (skip j i) (g .cpus)) (Taking.Steal o (skip j i)) Taking.NoRoom)
+  pub steal-next : (i : ℕ) → Trees (treesOf g) → Gone i → So (pick (ltb (skip j i) (g .cpus)) (Taking.Steal o (skip j i)) Taking.NoRoom)
   steal-next i t h =
       let gone : Gone (skip j i) = λ k l m n. pick-elim (λ y. k < y → entryAt g (z .cpus) k ≡ CpuEntry.Absent) (eqb i j) (λ e x. h k (let q = eqb-true i j e in let r : k ≢ i = λ y. n (y ∙ q) in omega arith) m n) (λ e x. h k x m n) l in
       pick-elim So (ltb (skip j i) (g .cpus)) (λ e. (t, gone)) (λ e. let q = ltb-false (skip j i) (g .cpus) e in (t, λ k l m n. gone k (omega arith) m n))

@@ -5,16 +5,20 @@ use mathlib.Core.List.{List}
 use Prim.Native.Nat.{ℕ, _+_, _-_, _*_, _/_, _%_, _≤_, _<_}
 use native.Mathlib.Omega.{arith}
 use native.Mathlib.Nat.{mod-lt, div-add-mod', mul-le-mul-right, mul-zero, zero-mul}
-use lib.ListN.{getD}
+use native.Mathlib.Decide.{ℕ-discrete}
+use lib.ListN.{length, getD, set}
+use lib.Seq.{getD-set-same, getD-set-other}
 use Rattle.laws.specs.Tests.{pick}
 use Rattle.laws.specs.Sum.{sumTo, run}
 use Rattle.laws.specs.Words.{bit, bits}
 use Rattle.laws.proofs.Tests.{pick-elim, pick-yes, pick-no}
 use Rattle.laws.proofs.Sum.{inside, outside, ran, sum-add, sum-ext, sum-zero, sum-run}
 use Rattle.laws.proofs.Words.{bit-le, free-bits}
+use Rattle.rules.specs.Types.{ChildEntry}
 use Rattle.rules.specs.Numbers.{childFrames, childWords, wordBits}
-use Rattle.rules.specs.Lower.{isFlagged}
-use Rattle.rules.proofs.Fields.{zero-frames}
+use Rattle.rules.specs.Lower.{childSays, countWord, isFlagged}
+use Rattle.rules.proofs.Fields.{counts-entry, zero-frames}
+use Rattle.rules.proofs.Layouts.{count-again}
 use Rattle.rules.proofs.Own.{freeOf, bitAt}
 
 -- frame f is taken
@@ -68,3 +72,13 @@ short-words s m e cs ws x h i l q =
     let u : y % wordBits ≡ s * r + k = omega arith in
     let v : y / wordBits ≡ childWords * x + a = omega arith in
     ap (λ c. bit c (getD ws (childWords * x + a) 0)) (sym u) ∙ ap (λ c. bit (y % wordBits) (getD ws c 0)) (sym v) ∙ not-taken cs ws y (q k t)))
+
+-- a count is stored over a count: flags and bits stay
+pub short-counted : (s : ℕ) (cs ws : List ℕ) (i k k′ : ℕ) → i < length cs → childSays (getD cs i 0) ≡ ChildEntry.Counts k → k′ ≤ childFrames → (x : ℕ) → Short s cs ws x → Short s (set cs i (countWord k′)) ws x
+short-counted s cs ws i k k′ l e m x h b a q = h b a (λ y t. ap (λ c. pick c 1 (bitAt ws (childFrames * x + (s * b + y)))) (sym (flags ((childFrames * x + (s * b + y)) / childFrames))) ∙ q y t)
+  where
+    flags : (y : ℕ) → isFlagged (getD (set cs i (countWord k′)) y 0) ≡ isFlagged (getD cs y 0)
+    flags y = elim (ℕ-discrete y i) [
+      | yes r ↦ ap (λ c. isFlagged (getD (set cs i (countWord k′)) c 0)) r ∙ (ap isFlagged (getD-set-same cs i (countWord k′) 0 l) ∙ (counts-entry (countWord k′) k′ (count-again k′ m) .1 ∙ (sym (counts-entry (getD cs i 0) k e .1) ∙ ap (λ c. isFlagged (getD cs c 0)) (sym r))))
+      | no r ↦ ap isFlagged (getD-set-other cs i y (countWord k′) 0 r)
+    ]
