@@ -201,6 +201,25 @@ module _ (g : Shape) (j : ℕ) (o : Order) (z : Zone) where
     pub searched-one : next ≢ s → Passed t s next
     searched-one e d m q = one-more d m (omega (arith, fewer e))
 
+-- ---- what a store leaves of it
+
+module _ (g : Shape) (j : ℕ) (o : Order) (z z′ : Zone) where
+  pub knows-kept : (p : Place) → ((k : ℕ) → Trees g j o z k → Trees g j o z′ k) → ((k : ℕ) → Gone g j o z k → Gone g j o z′ k) → Knows g j o z p → Knows g j o z′ p
+  knows-kept (Place.Own t) a b h = tt
+  knows-kept (Place.Found (Found.Pass (Pass.Near t c))) a b h = tt
+  knows-kept (Place.Found (Found.Pass (Pass.Partial t))) a b h = tt
+  knows-kept (Place.Found (Found.Pass (Pass.Free t))) a b h = tt
+  knows-kept (Place.Found (Found.Pass (Pass.Any t))) a b h = a (t .0) h
+  knows-kept (Place.Found (Found.Steal i t)) a b h = (a (treesOf g) (h .0), b (suc i) (h .1))
+
+  pub spent-kept : (p : Place) → ((t : ℕ) → Bare g j o z t → Bare g j o z′ t) → Spent g j o z p → Spent g j o z′ p
+  spent-kept (Place.Own t) a h = tt
+  spent-kept (Place.Found (Found.Pass (Pass.Near t c))) a h = tt
+  spent-kept (Place.Found (Found.Pass (Pass.Partial t))) a h = tt
+  spent-kept (Place.Found (Found.Pass (Pass.Free t))) a h = tt
+  spent-kept (Place.Found (Found.Pass (Pass.Any t))) a h = a (t .0) h
+  spent-kept (Place.Found (Found.Steal i t)) a h = a (t .0) h
+
 -- ---- counts, where nobody else is under way
 
 none-shares : (t : ℕ) (e : CpuEntry) → has t e ≡ 0 → share t e ≡ 0

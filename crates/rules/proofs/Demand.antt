@@ -15,7 +15,7 @@ use Rattle.laws.proofs.Tests.{pick-elim}
 use Rattle.rules.specs.Types.{Block, Record, Answer}
 use Rattle.rules.specs.Numbers.{childFrames, childWords, mostHuge, mostCpus, format1, Shape, treesOf}
 use Rattle.rules.specs.Conversions.{frame}
-use Rattle.rules.specs.Blocks.{size, firstOf}
+use Rattle.rules.specs.Blocks.{size, sizeOf, firstOf}
 use Rattle.rules.specs.Answers.{number, Next, ends, goesOn, nextOf, byNext}
 use Rattle.rules.specs.Zone.{Zone, headerOf, headerHuge, shaped, shapeOf}
 use Rattle.rules.specs.Plan.{Mark, plain, takes, clears, Plan, Refusal, guarded}
@@ -24,15 +24,15 @@ use Rattle.rules.specs.Step.{after}
 use Rattle.rules.specs.Open.{openStep, settled, closeSound, closeZone}
 use Rattle.rules.specs.Fresh.{Fitting}
 use Rattle.rules.specs.Events.{Begun, idle, getting, putting, Cpu, taken, unlessCleared, lostBy, lostOf, lostAll, Phase, ready, down, opening, State, cpusOf, heldAt, Call, get, put, stepOf, close, openFirst, openLater, orderOfBlock, planned, storedBy, withPhase, cutOff, answeredBy, Event, call, cut, cutIn, next, Called}
-use Rattle.rules.specs.Promise.{covers, AtRest, ownedBy, most, Promise, Demand3}
+use Rattle.rules.specs.Promise.{covers, AtRest, ownedBy, most, Names, Promise, Demand3}
 use Rattle.rules.proofs.Guards.{guarded-elim}
 use Rattle.rules.proofs.Ways.{guarded-none}
 use Rattle.rules.proofs.Own.{owned-once, owned-survived}
 use Rattle.rules.proofs.Shares.{baseOf, wholeOf}
 use Rattle.rules.proofs.Invariant.{BlockIn, Up}
 use Rattle.rules.proofs.Readings.{shape-is, open-skips}
-use Rattle.rules.proofs.Phases.{lost-told, still}
-use Rattle.rules.proofs.Turns.{Goes, first-goes, later-goes, op-kept, in-table, stepped, as-many}
+use Rattle.rules.proofs.Phases.{lost-told, still, down-huge}
+use Rattle.rules.proofs.Turns.{Goes, first-goes, later-goes, op-kept, in-table, stepped, as-many, op-huge}
 use Rattle.rules.proofs.Ends.{length-replicate}
 use Rattle.rules.proofs.Histories.{Phased, Holds, made, in-phase, at-still, inside-at, answer-elim, reached}
 use Rattle.rules.proofs.Rest.{covered-is, covered-out, two-of, rest-taken, rest-trees, rest-children, rest-sound, rest-settled}
@@ -56,6 +56,26 @@ module _ (n : ℕ) (s : State) (h : Holds n s) where
         | no m ↦ omega (arith, t, covered-out n (s .held) f (h .inside) (omega arith))
       ]
 
+  -- the header keeps n in every phase
+  huge-kept : headerHuge (headerOf (s .zone)) ≡ n
+  huge-kept = go (s .phase) (h .phased)
+    where
+      go : (p : Phase) → Phased n s p → headerHuge (headerOf (s .zone)) ≡ n
+      go ready u = ap (λ (g : Shape). g .huge) (shape-is n (s .zone) (s .cpus) (s .held) (s .lost) u)
+      go down d = down-huge n (s .zone) (s .held) (s .lost) (d .0)
+      go (opening r) o = op-huge n (s .zone) r (s .held) (s .lost) (o .0)
+
+  block-ends : (b : Block) → BlockIn n b → firstOf b .0 + sizeOf b ≤ childFrames * n
+  block-ends (Block.Base f) l = omega (arith, l)
+  block-ends (Block.Whole x) l = omega (arith, l)
+
+  block-some : (b : Block) → 0 < sizeOf b
+  block-some (Block.Base f) = omega arith
+  block-some (Block.Whole x) = omega arith
+
+  inside : (i : ℕ) → i < length (s .held) → firstOf (heldAt s i) .0 + sizeOf (heldAt s i) ≤ childFrames * headerHuge (headerOf (s .zone))
+  inside i l = rw huge-kept (block-ends (heldAt s i) (inside-at n (s .held) i l (h .inside)))
+
   -- ---- at rest
 
   module _ (r : AtRest s) where
@@ -64,9 +84,6 @@ module _ (n : ℕ) (s : State) (h : Holds n s) where
 
     shape : shapeOf (s .zone) ≡ shaped n (s .zone)
     shape = shape-is n (s .zone) (s .cpus) (s .held) (s .lost) up
-
-    count : headerHuge (headerOf (s .zone)) ≡ n
-    count = ap (λ (g : Shape). g .huge) shape
 
     close-done : number (planned s close .answer) ≡ 0
     unfolding planned closeZone closeSound
@@ -77,11 +94,12 @@ module _ (n : ℕ) (s : State) (h : Holds n s) where
 
   -- ---- answers
 
-  step-small : (j : ℕ) → Called s (stepOf j) → number (planned s (stepOf j) .answer) ≤ most (s .cpus j .begun)
+  step-fine : (j : ℕ) → Called s (stepOf j) → (number (planned s (stepOf j) .answer) ≤ most (s .cpus j .begun)) × Names (s .cpus j .begun) (planned s (stepOf j) .answer)
   unfolding planned
-  step-small j (e, b) =
+  step-fine j (e, b) =
       let u : Up n (s .zone) (s .cpus) (s .held) (s .lost) = in-phase n s h ready e in
-      stepped n (s .zone) (s .cpus) (s .held) (s .lost) u j (in-table n (s .zone) (s .cpus) (s .held) (s .lost) u j b) b .fine .small
+      let k = stepped n (s .zone) (s .cpus) (s .held) (s .lost) u j (in-table n (s .zone) (s .cpus) (s .held) (s .lost) u j b) b in
+      (k .fine .small, k .fine .names)
 
   get-small : (j o : ℕ) → Called s (get j o) → (number (planned s (get j o) .answer) ≡ 1) ⊎ ((number (planned s (get j o) .answer) ≡ 7) ⊎ (number (planned s (get j o) .answer) ≡ 3))
   unfolding planned beginGet
@@ -94,10 +112,6 @@ module _ (n : ℕ) (s : State) (h : Holds n s) where
   unfolding isOrder pick
   orders (Block.Base f) = refl
   orders (Block.Whole x) = refl
-
-  in-zone : (b : Block) → BlockIn n b → firstOf b .0 < n * childFrames
-  in-zone (Block.Base f) l = l
-  in-zone (Block.Whole x) l = omega (arith, l)
 
   aligned : (b : Block) → firstOf b .0 % size (orderOf (orderNumber (orderOfBlock b))) ≡ 0
   unfolding orderOf pick
@@ -112,7 +126,7 @@ module _ (n : ℕ) (s : State) (h : Holds n s) where
       let k : ℕ = orderNumber (orderOfBlock b) in
       let l : List Refusal = badOrder k ∷ (badFrame (s .zone) (firstOf b) ∷ (misaligned k (firstOf b) ∷ [])) in
       let Q : Plan → Type 0 = λ (p : Plan). (number (p .answer) ≡ 1) ⊎ ((number (p .answer) ≡ 7) × (answeredBy (made (after (s .zone) p) (s .cpus) (s .phase) (s .held) (s .lost)) (put j i) (p .answer) .held ≡ s .held)) in
-      let far : leb (shapeOf (s .zone) .huge * childFrames) (firstOf b .0) ≡ false = lt-leb (shapeOf (s .zone) .huge * childFrames) (firstOf b .0) (rw (ap (λ (g : Shape). g .huge) (shape-is n (s .zone) (s .cpus) (s .held) (s .lost) u)) (in-zone b (inside-at n (s .held) i m (h .inside)))) in
+      let far : leb (shapeOf (s .zone) .huge * childFrames) (firstOf b .0) ≡ false = lt-leb (shapeOf (s .zone) .huge * childFrames) (firstOf b .0) (rw (ap (λ (g : Shape). g .huge) (shape-is n (s .zone) (s .cpus) (s .held) (s .lost) u)) (omega (arith, block-some b, block-ends b (inside-at n (s .held) i m (h .inside))))) in
       subst Q (sym (open-skips n (s .zone) (s .cpus) (s .held) (s .lost) u (badCpu (s .zone) j ∷ l) _)) (pick-elim Q (badCpu (s .zone) j .test) (λ c. inr (refl, refl)) (λ c.
       subst Q (sym (guarded-none l _ (ap not (orders b), (far, (ap not (eq-eqb _ _ (aligned b)), tt))))) (inl refl)))
 
@@ -221,11 +235,13 @@ starts n c a b d e =
 promised : (n : ℕ) (s : State) → Holds n s → Promise s
 promised n s h = record {
   apart = apart n s h;
-  taken = λ r f l. rest-taken n (s .zone) (s .cpus) (s .held) (s .lost) (up n s h r) (r .1) f (rw (count n s h r) at l);
+  inside = inside n s h;
+  names = λ j c. step-fine n s h j c .1;
+  taken = λ r f l. rest-taken n (s .zone) (s .cpus) (s .held) (s .lost) (up n s h r) (r .1) f (rw (huge-kept n s h) at l);
   opened = later-rests n s h;
-  trees = λ r. rw (count n s h r) (rest-trees n (s .zone) (s .cpus) (s .held) (s .lost) (up n s h r) (r .1));
-  children = λ r. rw (count n s h r) (rest-children n (s .zone) (s .cpus) (s .held) (s .lost) (up n s h r) (r .1));
-  steps = step-small n s h;
+  trees = λ r. rw (huge-kept n s h) (rest-trees n (s .zone) (s .cpus) (s .held) (s .lost) (up n s h r) (r .1));
+  children = λ r. rw (huge-kept n s h) (rest-children n (s .zone) (s .cpus) (s .held) (s .lost) (up n s h r) (r .1));
+  steps = λ j c. step-fine n s h j c .0;
   gets = get-small n s h;
   puts = put-small n s h;
   openFirst = first-small n s h;

@@ -95,6 +95,7 @@ module _ (n : ℕ) (z : Zone) (cs : ℕ → Cpu) (held lost : List Block) (u : U
       agrees = (agreed .0, agreed .1, f (agreed .0) (agreed .2), agreed .3 ∙ w);
       small = rw (agreed .1) (omega arith);
       inside = rw (agreed .1) tt;
+      names = rw (agreed .1) tt;
     }
 
     -- ---- kinds of steps, with the get going on at stage s′
@@ -378,6 +379,7 @@ module _ (n : ℕ) (z : Zone) (cs : ℕ → Cpu) (held lost : List Block) (u : U
     agrees = (agreed s e .0, agreed s e .1, f (agreed s e .0) (agreed s e .2), refl);
     small = rw (agreed s e .1) (omega arith);
     inside = rw (agreed s e .1) tt;
+    names = rw (agreed s e .1) tt;
   }
 
   -- nothing is handed out while the get goes on
@@ -499,6 +501,7 @@ module _ (n : ℕ) (z : Zone) (cs : ℕ → Cpu) (held lost : List Block) (u : U
         agrees = (refl, refl);
         small = omega arith;
         inside = rw (a .1, same-block b (a .0) (a .2)) (block-in b (proper (Taking.Last b) e .0), tt);
+        names = rw (a .1, same-block b (a .0) (a .2)) refl;
       }
 
   last-stage : (b : Block) → Stage (Taking.Last b)
@@ -524,7 +527,7 @@ module _ (n : ℕ) (z : Zone) (cs : ℕ → Cpu) (held lost : List Block) (u : U
   no-room-stage e =
       let s : Taking = Taking.NoRoom in
       let a = agreed s e in
-      looked n z cs held lost u j l _ e _ (record { proper = tt; lostly = rw (a .1) (a .3); agrees = (refl, refl); small = rw (a .1) (omega arith); inside = rw (a .1) tt }) (λ x. refl) (λ x. refl) (λ x. refl) tt
+      looked n z cs held lost u j l _ e _ (record { proper = tt; lostly = rw (a .1) (a .3); agrees = (refl, refl); small = rw (a .1) (omega arith); inside = rw (a .1) tt; names = rw (a .1) tt }) (λ x. refl) (λ x. refl) (λ x. refl) tt
 
   pub get-kept : (s : Taking) → Stage s
   get-kept (Taking.Own o) = own-stage o

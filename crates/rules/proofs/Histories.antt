@@ -285,31 +285,29 @@ module _ (n : ℕ) (s : State) (h : Holds n s) where
   called openFirst e = let d = in-phase down e in at-still down e (d .1) (λ x. Holds n (next x (call openFirst))) (first-call n _ _ _ (h .inside) (d .0))
   called openLater (r, e) = let o = in-phase (opening r) e in at-still (opening r) e (o .1) (λ x. Holds n (next x (call openLater))) (later-call n _ _ _ (h .inside) r (o .0))
 
+  -- what a cut may leave does not hang on phase and CPUs
+  left-at : (ts es : List ℕ) → Left s ts es → (p : Phase) (cs : ℕ → Cpu) → Left (made (s .zone) cs p (s .held) (s .lost)) ts es
+  left-at ts es l p cs = record { trees = l .trees; some = l .some; most = l .most }
+
   cut-any : (ts es : List ℕ) → Left s ts es → Holds n (next s (cut ts es))
   unfolding next
   cut-any ts es l = go (s .phase) refl
     where
-      left-at : (p : Phase) (cs : ℕ → Cpu) → Left (made (s .zone) cs p (s .held) (s .lost)) ts es
-      left-at p cs = record { trees = l .trees; some = l .some; most = l .most }
-
       go : (p : Phase) → s .phase ≡ p → Holds n (afterCut s ts es)
-      go ready e = at-phase ready e (λ x. Holds n (afterCut x ts es)) (cut-same n _ _ _ _ (in-phase ready e) (h .inside) ts es (left-at ready _))
-      go down e = let d = in-phase down e in at-still down e (d .1) (λ x. Holds n (afterCut x ts es)) (down-cut n _ _ _ (h .inside) (d .0) ts es (left-at down _))
-      go (opening r) e = let o = in-phase (opening r) e in at-still (opening r) e (o .1) (λ x. Holds n (afterCut x ts es)) (op-cut n _ _ _ (h .inside) r (o .0) ts es (left-at (opening r) _))
+      go ready e = at-phase ready e (λ x. Holds n (afterCut x ts es)) (cut-same n _ _ _ _ (in-phase ready e) (h .inside) ts es (left-at ts es l ready _))
+      go down e = let d = in-phase down e in at-still down e (d .1) (λ x. Holds n (afterCut x ts es)) (down-cut n _ _ _ (h .inside) (d .0) ts es (left-at ts es l down _))
+      go (opening r) e = let o = in-phase (opening r) e in at-still (opening r) e (o .1) (λ x. Holds n (afterCut x ts es)) (op-cut n _ _ _ (h .inside) r (o .0) ts es (left-at ts es l (opening r) _))
 
   cut-in : (c : Call) (ts es : List ℕ) → Called s c → Left s ts es → Holds n (next s (cutIn c ts es))
   cut-in c ts es q l = go c q
     where
-      left-at : (p : Phase) (cs : ℕ → Cpu) → Left (made (s .zone) cs p (s .held) (s .lost)) ts es
-      left-at p cs = record { trees = l .trees; some = l .some; most = l .most }
-
       go : (c : Call) → Called s c → Holds n (next s (cutIn c ts es))
-      go (get j o) (e, i) = at-phase ready e (λ x. Holds n (next x (cutIn (get j o) ts es))) (cut-get n _ _ _ _ (in-phase ready e) (h .inside) ts es (left-at ready _) j o)
-      go (put j k) (e, i, m) = at-phase ready e (λ x. Holds n (next x (cutIn (put j k) ts es))) (cut-put n _ _ _ _ (in-phase ready e) (h .inside) ts es (left-at ready _) j k)
-      go (stepOf j) (e, i) = at-phase ready e (λ x. Holds n (next x (cutIn (stepOf j) ts es))) (cut-step n _ _ _ _ (in-phase ready e) (h .inside) ts es (left-at ready _) j i)
-      go close e = at-phase ready e (λ x. Holds n (next x (cutIn close ts es))) (cut-close n _ _ _ _ (in-phase ready e) (h .inside) ts es (left-at ready _))
-      go openFirst e = let d = in-phase down e in at-still down e (d .1) (λ x. Holds n (next x (cutIn openFirst ts es))) (first-cut n _ _ _ (h .inside) (d .0) ts es (left-at down _))
-      go openLater (r, e) = let o = in-phase (opening r) e in at-still (opening r) e (o .1) (λ x. Holds n (next x (cutIn openLater ts es))) (later-cut n _ _ _ (h .inside) r (o .0) ts es (left-at (opening r) _))
+      go (get j o) (e, i) = at-phase ready e (λ x. Holds n (next x (cutIn (get j o) ts es))) (cut-get n _ _ _ _ (in-phase ready e) (h .inside) ts es (left-at ts es l ready _) j o)
+      go (put j k) (e, i, m) = at-phase ready e (λ x. Holds n (next x (cutIn (put j k) ts es))) (cut-put n _ _ _ _ (in-phase ready e) (h .inside) ts es (left-at ts es l ready _) j k)
+      go (stepOf j) (e, i) = at-phase ready e (λ x. Holds n (next x (cutIn (stepOf j) ts es))) (cut-step n _ _ _ _ (in-phase ready e) (h .inside) ts es (left-at ts es l ready _) j i)
+      go close e = at-phase ready e (λ x. Holds n (next x (cutIn close ts es))) (cut-close n _ _ _ _ (in-phase ready e) (h .inside) ts es (left-at ts es l ready _))
+      go openFirst e = let d = in-phase down e in at-still down e (d .1) (λ x. Holds n (next x (cutIn openFirst ts es))) (first-cut n _ _ _ (h .inside) (d .0) ts es (left-at ts es l down _))
+      go openLater (r, e) = let o = in-phase (opening r) e in at-still (opening r) e (o .1) (λ x. Holds n (next x (cutIn openLater ts es))) (later-cut n _ _ _ (h .inside) r (o .0) ts es (left-at ts es l (opening r) _))
 
   pub event : (e : Event) → Admitted s e → Holds n (next s e)
   event (call c) q = called c q

@@ -19,7 +19,7 @@ use Rattle.rules.specs.Lower.{childSays, countWord, flaggedWord}
 use Rattle.rules.specs.Zone.{Zone, shaped, Store, stored, nothing}
 use Rattle.rules.specs.Plan.{Mark, plain, takes, clears, Plan, says}
 use Rattle.rules.specs.Events.{Cpu, resting, taken, unlessCleared, lostBy, handed}
-use Rattle.rules.specs.Promise.{ownedBy, most}
+use Rattle.rules.specs.Promise.{ownedBy, most, Names}
 use Rattle.rules.proofs.Layouts.{format1-sound}
 use Rattle.rules.proofs.Shapes.{child-in, sum-tree}
 use Rattle.rules.proofs.Shares.{baseOf, wholeOf, share, has, lowOf, owed, reserves, Wanted, want, Proper, AgreesWith, Agrees}
@@ -75,6 +75,7 @@ module _ (n : ℕ) (z : Zone) (cs : ℕ → Cpu) (held lost : List Block) (u : U
     pub agrees : Agrees (answered (cs j) (p .mark) (p .answer))
     pub small : number (p .answer) ≤ most (cs j .begun)
     pub inside : AllIn n (handed (cs j .begun) (p .answer))
+    pub names : Names (cs j .begun) (p .answer)
 
   pub record Keeps (p : Plan) : Type 0 where
     pub up : Up n (stored format1 z (p .store)) (upd cs j (answered (cs j) (p .mark) (p .answer))) (handed (cs j .begun) (p .answer) ++ held) lost

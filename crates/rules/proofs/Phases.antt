@@ -119,6 +119,17 @@ zeros-at g k+ z c h =
     let e : (i : ℕ) → childWords * (t * perTree g) + (childWords * r + i) ≡ childWords * c + i = λ i. omega (arith, huge-is g k+ c) in
     sum-ext childWords _ _ (λ i l. ap (zeros wordBits) (part-at (childWords * (t * perTree g)) (childWords * childrenOf g t) (z .words) (childWords * r + i) 0 (omega (arith, number-in g k+ c h)) ∙ ap (λ y. getD (z .words) y 0) (e i)))
 
+-- no child is malformed, and a flag stands over an empty field
+module _ (n : ℕ) (z : Zone) (base whole : ℕ → ℕ) (k : Survived n (z .children) (z .words) base whole) where
+  pub all-formed : childrenFormed (shaped n z) z ≡ true
+  unfolding childrenFormed
+  all-formed = every-all n _ (λ c h. ap wellFormed (child-at (shaped n z) (omega arith) z c h) ∙ k .formed c h)
+
+  pub all-empty : flagsEmpty (shaped n z) z ≡ true
+  unfolding flagsEmpty emptyField
+  all-empty = every-all n _ (λ c h. pick-elim (λ b. b ≡ true) (isFlagged (childAt (shaped n z) z (huge c)))
+      (λ f. eq-eqb _ _ (zeros-at (shaped n z) (omega arith) z c h ∙ k .empty c h (pick-yes _ _ _ (sym (ap isFlagged (child-at (shaped n z) (omega arith) z c h)) ∙ f)))) (λ f. refl))
+
 module _ (n : ℕ) (z : Zone) (held lost : List Block) (d : Down n z held lost) where
   abbrev g : Shape
   g = shaped n z
@@ -154,13 +165,9 @@ module _ (n : ℕ) (z : Zone) (held lost : List Block) (d : Down n z held lost) 
       go (inl e) = ap length e
       go (inr e) = ap length (e .0)
 
-  -- no child is malformed, and a flag stands over an empty field
   open-sound : openSound z ≡ true
-  unfolding openSound childrenFormed flagsEmpty emptyField
-  open-sound = rw down-huge (both-and _ _
-      (every-all n _ (λ c h. ap wellFormed (child-at g (omega arith) z c h) ∙ d .kept .formed c h))
-      (pick-elim (λ b. b ≡ true) (isRunning (headerOf z)) (λ e. every-all n _ (λ c h. pick-elim (λ b. b ≡ true) (isFlagged (childAt g z (huge c)))
-      (λ f. eq-eqb _ _ (zeros-at g (omega arith) z c h ∙ d .kept .empty c h (pick-yes _ _ _ (sym (ap isFlagged (child-at g (omega arith) z c h)) ∙ f)))) (λ f. refl))) (λ e. refl)))
+  unfolding openSound
+  open-sound = rw down-huge (both-and _ _ (all-formed n z _ _ (d .kept)) (pick-elim (λ b. b ≡ true) (isRunning (headerOf z)) (λ e. all-empty n z _ _ (d .kept)) (λ e. refl)))
 
   -- so the first step of an open is not refused
   pub accepted : Accepts z

@@ -64,6 +64,7 @@ module _ (n : ℕ) (z : Zone) (cs : ℕ → Cpu) (held lost : List Block) (u : U
       agrees = (agreed .0, agreed .1, agreed .2 ∙ w);
       small = rw (agreed .1) (omega arith);
       inside = rw (agreed .1) tt;
+      names = rw (agreed .1) tt;
     }
 
     -- the clearing store: from then on the put owns nothing
@@ -75,6 +76,7 @@ module _ (n : ℕ) (z : Zone) (cs : ℕ → Cpu) (held lost : List Block) (u : U
       agrees = (agreed .0, agreed .1, sym w);
       small = rw (agreed .1) (omega arith);
       inside = rw (agreed .1) tt;
+      names = rw (agreed .1) tt;
     }
 
     fine-done : (st : Store) (f : Frame) → ownedBy (Record.Put j s) ≡ [] → Good (says st (Answer.Done f))
@@ -85,6 +87,7 @@ module _ (n : ℕ) (z : Zone) (cs : ℕ → Cpu) (held lost : List Block) (u : U
       agrees = (refl, refl);
       small = omega arith;
       inside = rw (agreed .1) tt;
+      names = rw (agreed .1) tt;
     }
 
     handed-none : (a : Answer) → handed (cs j .begun) a ≡ []

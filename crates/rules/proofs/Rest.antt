@@ -8,14 +8,14 @@ use native.Mathlib.Decide.{ℕ-discrete, decLt}
 use lib.ListN.{length, getD}
 use borrow.Author.Tests.{eq-eqb}
 use Rattle.laws.specs.Sum.{sumTo, sumL, at}
-use Rattle.laws.proofs.Tests.{pick-elim, pick-yes, pick-no, both-and, every-all}
+use Rattle.laws.proofs.Tests.{pick-elim, pick-no, both-and, every-all}
 use Rattle.laws.proofs.Sum.{run-in, run-below, run-above, at-same, at-other, sum-ext, sum-zero, sum-groups}
 use Rattle.laws.proofs.Parts.{part-at}
 use Rattle.rules.specs.Types.{Order, Block}
 use Rattle.rules.specs.Numbers.{childFrames, Shape, perTree, treesOf, childrenOf, capacity}
 use Rattle.rules.specs.Conversions.{huge, tree}
 use Rattle.rules.specs.Blocks.{size}
-use Rattle.rules.specs.Lower.{wellFormed, isFlagged, countIn, emptyField, partSum}
+use Rattle.rules.specs.Lower.{isFlagged, countIn, partSum}
 use Rattle.rules.specs.Zone.{Zone, shaped, cpuEntryAt}
 use Rattle.rules.specs.Plan.{byTree}
 use Rattle.rules.specs.Open.{childAt, childrenFormed, flagsEmpty, treesFormed, cpusFormed, childSettled, treeCount, cpuCount, childCount, treeSettled, settled}
@@ -29,7 +29,7 @@ use Rattle.rules.proofs.Shares.{baseOf, wholeOf, share, lowOf, owed}
 use Rattle.rules.proofs.Upper.{entryAt, tallyAt}
 use Rattle.rules.proofs.Invariant.{AllIn, weighs, freeTree, Up}
 use Rattle.rules.proofs.Readings.{tree-says}
-use Rattle.rules.proofs.Phases.{weighed, zeros-at}
+use Rattle.rules.proofs.Phases.{weighed, zeros-at, all-formed, all-empty}
 
 -- ---- the frames of a block, as base frames and as whole children
 
@@ -143,18 +143,6 @@ module _ (n : ℕ) (z : Zone) (cs : ℕ → Cpu) (held lost : List Block) (u : U
 
   -- ---- close answers Done
 
-  child-formed : (c : ℕ) → c < n → wellFormed (childAt g z (huge c)) ≡ true
-  child-formed c h = ap wellFormed (child-at g (omega arith) z c h) ∙ u .lower .formed c h
-
-  all-formed : childrenFormed g z ≡ true
-  unfolding childrenFormed
-  all-formed = every-all n _ child-formed
-
-  all-empty : flagsEmpty g z ≡ true
-  unfolding flagsEmpty emptyField
-  all-empty = every-all n _ (λ c h. pick-elim (λ b. b ≡ true) (isFlagged (childAt g z (huge c)))
-      (λ f. eq-eqb _ _ (zeros-at g (omega arith) z c h ∙ u .lower .empty c h (pick-yes _ _ _ (sym (ap isFlagged (child-at g (omega arith) z c h)) ∙ f)))) (λ f. refl))
-
   trees-formed : treesFormed g z ≡ true
   unfolding treesFormed byTree
   trees-formed = every-all (treesOf g) _ (λ t h. rw (tree-says n z cs held lost u (tree t) h) refl)
@@ -173,7 +161,7 @@ module _ (n : ℕ) (z : Zone) (cs : ℕ → Cpu) (held lost : List Block) (u : U
   child-count t = sum-ext (childrenOf g t) _ _ (λ c l. ap countIn (part-at (t * perTree g) (childrenOf g t) (z .children) c 0 l) ∙ counts-free _ (child-in g (omega arith) t c l))
 
   pub rest-sound : (childrenFormed g z && (flagsEmpty g z && (treesFormed g z && cpusFormed g z))) ≡ true
-  rest-sound = both-and _ _ all-formed (both-and _ _ all-empty (both-and _ _ trees-formed cpus-formed))
+  rest-sound = both-and _ _ (all-formed n z _ _ under) (both-and _ _ (all-empty n z _ _ under) (both-and _ _ trees-formed cpus-formed))
 
   pub rest-settled : settled g z ≡ true
   unfolding settled treeSettled

@@ -41,7 +41,7 @@ use Rattle.rules.proofs.Own.{freeOf}
 use Rattle.rules.proofs.Fields.{counts-entry, flagged-entry, count-fits, Says, counts, flagged, says as says-entry}
 use Rattle.rules.proofs.Lower.{claim-counts, claim-flagged, huge-counts, huge-flagged, give-counts, take-run, take-none}
 use Rattle.rules.proofs.Room.{Short, short-count, short-words, short-counted}
-use Rattle.rules.proofs.Alone.{Bare, Trees, Gone, Passed, Knows, Spent, Full, So, steal-next, ShortAt, spent, searched-all, searched-one, Over, pass-next, place-next, all-free, bare, none-reserved}
+use Rattle.rules.proofs.Alone.{Bare, Trees, Gone, Passed, Knows, Spent, knows-kept, spent-kept, Full, So, steal-next, ShortAt, spent, searched-all, searched-one, Over, pass-next, place-next, all-free, bare, none-reserved}
 
 module _ (n : ℕ) (z : Zone) (cs : ℕ → Cpu) (held lost : List Block) (u : Up n z cs held lost) (j : ℕ) (l : j < length (z .cpus)) (o : Order) where
   abbrev g : Shape
@@ -87,21 +87,11 @@ module _ (n : ℕ) (z : Zone) (cs : ℕ → Cpu) (held lost : List Block) (u : U
 
   knows-own : (p : Place) (e : CpuEntry) → Knows g j o z p → Knows g j o (stored format1 z (Store.cpu j e)) p
   unfolding stored
-  knows-own (Place.Own t) e h = tt
-  knows-own (Place.Found (Found.Pass (Pass.Near t b))) e h = tt
-  knows-own (Place.Found (Found.Pass (Pass.Partial t))) e h = tt
-  knows-own (Place.Found (Found.Pass (Pass.Free t))) e h = tt
-  knows-own (Place.Found (Found.Pass (Pass.Any t))) e h = h
-  knows-own (Place.Found (Found.Steal i t)) e h = (h .0, gone-own (suc i) e (h .1))
+  knows-own p e = knows-kept g j o z (stored format1 z (Store.cpu j e)) p (λ k h. h) (λ k. gone-own k e)
 
   spent-own : (p : Place) (e : CpuEntry) → Spent g j o z p → Spent g j o (stored format1 z (Store.cpu j e)) p
   unfolding stored
-  spent-own (Place.Own t) e h = tt
-  spent-own (Place.Found (Found.Pass (Pass.Near t b))) e h = tt
-  spent-own (Place.Found (Found.Pass (Pass.Partial t))) e h = tt
-  spent-own (Place.Found (Found.Pass (Pass.Free t))) e h = tt
-  spent-own (Place.Found (Found.Pass (Pass.Any t))) e h = h
-  spent-own (Place.Found (Found.Steal i t)) e h = h
+  spent-own p e = spent-kept g j o z (stored format1 z (Store.cpu j e)) p (λ t h. h)
 
   -- at its start child a search has passed none
   passed-none : (y : Zone) (t s : ℕ) → s < childrenOf g t → Passed g j o y t s s
@@ -182,12 +172,7 @@ module _ (n : ℕ) (z : Zone) (cs : ℕ → Cpu) (held lost : List Block) (u : U
 
   spent-tree : (p : Place) (t : Tree) (b k : ℕ) → Spent g j o z p → Spent g j o (treed t b k) p
   unfolding stored
-  spent-tree (Place.Own v) t b k h = tt
-  spent-tree (Place.Found (Found.Pass (Pass.Near v x))) t b k h = tt
-  spent-tree (Place.Found (Found.Pass (Pass.Partial v))) t b k h = tt
-  spent-tree (Place.Found (Found.Pass (Pass.Free v))) t b k h = tt
-  spent-tree (Place.Found (Found.Pass (Pass.Any v))) t b k h = h
-  spent-tree (Place.Found (Found.Steal i v)) t b k h = h
+  spent-tree p t b k = spent-kept g j o z (treed t b k) p (λ t h. h)
 
   unreserve-on : (p : Place) (h : ℕ) → placeTree p .0 < treesOf g → So g j o z (Taking.Unreserve o p h) → On (carried g z (take g j (Taking.Unreserve o p h)))
   unfolding take
@@ -302,12 +287,7 @@ module _ (n : ℕ) (z : Zone) (cs : ℕ → Cpu) (held lost : List Block) (u : U
     gone-child b h = h
 
     knows-child : (p : Place) → Knows g j o z p → Knows g j o childed p
-    knows-child (Place.Own t) h = tt
-    knows-child (Place.Found (Found.Pass (Pass.Near t b))) h = tt
-    knows-child (Place.Found (Found.Pass (Pass.Partial t))) h = tt
-    knows-child (Place.Found (Found.Pass (Pass.Free t))) h = tt
-    knows-child (Place.Found (Found.Pass (Pass.Any t))) h = trees-child (t .0) h
-    knows-child (Place.Found (Found.Steal b t)) h = (trees-child (treesOf g) (h .0), gone-child (suc b) (h .1))
+    knows-child p = knows-kept g j o z childed p trees-child gone-child
 
     passed-child : (t s c : ℕ) → Passed g j o z t s c → Passed g j o childed t s c
     passed-child t s c h d a b = shorts (t * perTree g + d) (h d a b)

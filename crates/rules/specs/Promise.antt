@@ -7,11 +7,11 @@ use lib.ListN.{length, getD}
 use Rattle.laws.specs.Tests.{pick}
 use Rattle.laws.specs.Sum.{sumTo, sumL, run}
 use Rattle.laws.specs.Words.{bit}
-use Rattle.rules.specs.Types.{Block, Taking, Giving, Record}
+use Rattle.rules.specs.Types.{Block, Taking, Giving, Record, Answer}
 use Rattle.rules.specs.Numbers.{childFrames, wordBits, mostHuge, mostCpus, perTree, treesOf, capacity}
-use Rattle.rules.specs.Conversions.{huge, tree}
-use Rattle.rules.specs.Blocks.{sizeOf, firstOf}
-use Rattle.rules.specs.Answers.{number}
+use Rattle.rules.specs.Conversions.{frame, huge, tree}
+use Rattle.rules.specs.Blocks.{sizeOf, firstOf, blockAt}
+use Rattle.rules.specs.Answers.{number, byAnswer}
 use Rattle.rules.specs.Lower.{isFlagged, countIn}
 use Rattle.rules.specs.Zone.{Zone, shapeOf}
 use Rattle.rules.specs.Open.{childAt, treeCount, cpuCount}
@@ -72,9 +72,18 @@ most idle = 0
 most (getting o) = 2
 most (putting b) = 1
 
+-- a get that is answered Done names the first frame of the block that is held from then on
+abbrev pub Names : Begun → Answer → Type 0
+Names idle a = Unit {0}
+Names (getting o) a = byAnswer a (λ f. firstOf (blockAt o (frame f)) .0 ≡ f) (λ r. Unit {0}) (Unit {0})
+Names (putting b) a = Unit {0}
+
 pub record Promise (s : State) : Type 0 where
   -- no frame stands in two held blocks
   pub apart : (i j f : ℕ) → i < j → j < length (s .held) → covers (heldAt s i) f + covers (heldAt s j) f ≤ 1
+  -- held blocks lie in the zone, and each begins at the frame that its get answered
+  pub inside : (i : ℕ) → i < length (s .held) → firstOf (heldAt s i) .0 + sizeOf (heldAt s i) ≤ childFrames * shapeOf (s .zone) .huge
+  pub names : (j : ℕ) → Called s (stepOf j) → Names (s .cpus j .begun) (planned s (stepOf j) .answer)
   -- at rest the taken frames are exactly the held and the lost ones, each in one block
   pub taken : AtRest s → (f : ℕ) → f < childFrames * shapeOf (s .zone) .huge → takenAt (s .zone) f ≡ covered (s .held) f + covered (s .lost) f
   -- and an open that finishes is at rest
