@@ -29,13 +29,13 @@ use Rattle.rules.proofs.Guards.{guarded-elim}
 use Rattle.rules.proofs.Ways.{guarded-none}
 use Rattle.rules.proofs.Own.{owned-once, owned-survived}
 use Rattle.rules.proofs.Shares.{baseOf, wholeOf}
-use Rattle.rules.proofs.Invariant.{BlockIn, Up}
+use Rattle.rules.proofs.Invariant.{Up}
 use Rattle.rules.proofs.Readings.{shape-is, open-skips}
 use Rattle.rules.proofs.Phases.{lost-told, still, down-huge}
 use Rattle.rules.proofs.Turns.{Goes, first-goes, later-goes, op-kept, in-table, stepped, as-many, op-huge}
 use Rattle.rules.proofs.Ends.{length-replicate}
 use Rattle.rules.proofs.Histories.{Phased, Holds, made, in-phase, at-still, inside-at, answer-elim, reached}
-use Rattle.rules.proofs.Rest.{covered-is, covered-out, two-of, rest-taken, rest-trees, rest-children, rest-sound, rest-settled}
+use Rattle.rules.proofs.Rest.{covered-is, block-ends, block-some, covered-out, two-of, rest-taken, rest-trees, rest-children, rest-sound, rest-settled}
 
 module _ (n : ℕ) (s : State) (h : Holds n s) where
   -- ---- one owner a frame
@@ -65,16 +65,8 @@ module _ (n : ℕ) (s : State) (h : Holds n s) where
       go down d = down-huge n (s .zone) (s .held) (s .lost) (d .0)
       go (opening r) o = op-huge n (s .zone) r (s .held) (s .lost) (o .0)
 
-  block-ends : (b : Block) → BlockIn n b → firstOf b .0 + sizeOf b ≤ childFrames * n
-  block-ends (Block.Base f) l = omega (arith, l)
-  block-ends (Block.Whole x) l = omega (arith, l)
-
-  block-some : (b : Block) → 0 < sizeOf b
-  block-some (Block.Base f) = omega arith
-  block-some (Block.Whole x) = omega arith
-
   inside : (i : ℕ) → i < length (s .held) → firstOf (heldAt s i) .0 + sizeOf (heldAt s i) ≤ childFrames * headerHuge (headerOf (s .zone))
-  inside i l = rw huge-kept (block-ends (heldAt s i) (inside-at n (s .held) i l (h .inside)))
+  inside i l = rw huge-kept (block-ends n (heldAt s i) (inside-at n (s .held) i l (h .inside)))
 
   -- ---- at rest
 
@@ -126,7 +118,7 @@ module _ (n : ℕ) (s : State) (h : Holds n s) where
       let k : ℕ = orderNumber (orderOfBlock b) in
       let l : List Refusal = badOrder k ∷ (badFrame (s .zone) (firstOf b) ∷ (misaligned k (firstOf b) ∷ [])) in
       let Q : Plan → Type 0 = λ (p : Plan). (number (p .answer) ≡ 1) ⊎ ((number (p .answer) ≡ 7) × (answeredBy (made (after (s .zone) p) (s .cpus) (s .phase) (s .held) (s .lost)) (put j i) (p .answer) .held ≡ s .held)) in
-      let far : leb (shapeOf (s .zone) .huge * childFrames) (firstOf b .0) ≡ false = lt-leb (shapeOf (s .zone) .huge * childFrames) (firstOf b .0) (rw (ap (λ (g : Shape). g .huge) (shape-is n (s .zone) (s .cpus) (s .held) (s .lost) u)) (omega (arith, block-some b, block-ends b (inside-at n (s .held) i m (h .inside))))) in
+      let far : leb (shapeOf (s .zone) .huge * childFrames) (firstOf b .0) ≡ false = lt-leb (shapeOf (s .zone) .huge * childFrames) (firstOf b .0) (rw (ap (λ (g : Shape). g .huge) (shape-is n (s .zone) (s .cpus) (s .held) (s .lost) u)) (omega (arith, block-some b, block-ends n b (inside-at n (s .held) i m (h .inside))))) in
       subst Q (sym (open-skips n (s .zone) (s .cpus) (s .held) (s .lost) u (badCpu (s .zone) j ∷ l) _)) (pick-elim Q (badCpu (s .zone) j .test) (λ c. inr (refl, refl)) (λ c.
       subst Q (sym (guarded-none l _ (ap not (orders b), (far, (ap not (eq-eqb _ _ (aligned b)), tt))))) (inl refl)))
 

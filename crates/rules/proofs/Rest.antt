@@ -14,7 +14,7 @@ use Rattle.laws.proofs.Parts.{part-at}
 use Rattle.rules.specs.Types.{Order, Block}
 use Rattle.rules.specs.Numbers.{childFrames, Shape, perTree, treesOf, childrenOf, capacity}
 use Rattle.rules.specs.Conversions.{huge, tree}
-use Rattle.rules.specs.Blocks.{size}
+use Rattle.rules.specs.Blocks.{size, sizeOf, firstOf}
 use Rattle.rules.specs.Lower.{isFlagged, countIn, partSum}
 use Rattle.rules.specs.Zone.{Zone, shaped, cpuEntryAt}
 use Rattle.rules.specs.Plan.{byTree}
@@ -27,7 +27,7 @@ use Rattle.rules.proofs.Fresh.{child-at}
 use Rattle.rules.proofs.Own.{freeOf, Survived, taken-owned, free-unowned, owned-survived}
 use Rattle.rules.proofs.Shares.{baseOf, wholeOf, share, lowOf, owed}
 use Rattle.rules.proofs.Upper.{entryAt, tallyAt}
-use Rattle.rules.proofs.Invariant.{AllIn, weighs, freeTree, Up}
+use Rattle.rules.proofs.Invariant.{BlockIn, AllIn, weighs, freeTree, Up}
 use Rattle.rules.proofs.Readings.{tree-says}
 use Rattle.rules.proofs.Phases.{weighed, zeros-at, all-formed, all-empty}
 
@@ -48,6 +48,15 @@ pub covered-is : (l : List Block) (f : ℕ) → covered l f ≡ sumL (baseOf f) 
 unfolding sumL
 covered-is [] f = refl
 covered-is (b ∷ l) f = omega (arith, covers-is b f, covered-is l f)
+
+-- a block of the zone ends in it
+pub block-ends : (n : ℕ) (b : Block) → BlockIn n b → firstOf b .0 + sizeOf b ≤ childFrames * n
+block-ends n (Block.Base f) l = omega (arith, l)
+block-ends n (Block.Whole x) l = omega (arith, l)
+
+pub block-some : (b : Block) → 0 < sizeOf b
+block-some (Block.Base f) = omega arith
+block-some (Block.Whole x) = omega arith
 
 -- beyond the zone no block of it stands
 pub covered-out : (n : ℕ) (l : List Block) (f : ℕ) → AllIn n l → childFrames * n ≤ f → covered l f ≡ 0

@@ -29,7 +29,7 @@ takenIn cs ws f = pick (isFlagged (getD cs (f / childFrames) 0)) 1 (bitAt ws f)
 abbrev pub Short : ℕ → List ℕ → List ℕ → ℕ → Type 0
 Short s cs ws x = (i : ℕ) → s * i + s ≤ childFrames → ((k : ℕ) → k < s → takenIn cs ws (childFrames * x + (s * i + k)) ≡ 0) → ⊥
 
-taken-le : (cs ws : List ℕ) (f : ℕ) → takenIn cs ws f ≤ 1
+pub taken-le : (cs ws : List ℕ) (f : ℕ) → takenIn cs ws f ≤ 1
 taken-le cs ws f = pick-elim (λ y. y ≤ 1) (isFlagged (getD cs (f / childFrames) 0)) (λ e. omega arith) (λ e. bit-le (f % wordBits) (getD ws (f / wordBits) 0))
 
 -- a child's free frames are those that are not taken
@@ -53,7 +53,7 @@ short-count s cs ws x h i l q =
     ] in
     omega (arith, free-taken cs ws x, sum-run childFrames s (s * i) l, sum-add childFrames G (λ j. F j - G j) F (λ j m. omega (arith, under j)))
 
-some-of : (m : ℕ) → m ≢ 0 → 0 < m
+pub some-of : (m : ℕ) → m ≢ 0 → 0 < m
 some-of m h = omega arith
 
 -- no word of its field has a free run of s bits, m of which fill a word

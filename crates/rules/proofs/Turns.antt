@@ -198,7 +198,7 @@ module _ (n : ℕ) (z : Zone) (cs : ℕ → Cpu) (held lost : List Block) (u : U
   ]
 
   module _ (l : j < length (z .cpus)) where
-    get-step : (i : ℕ) (s : Taking) → i ≡ j → (e : cs j .latest ≡ Record.Get i s) → Keeping l (Record.Get i s) e
+    pub get-step : (i : ℕ) (s : Taking) → i ≡ j → (e : cs j .latest ≡ Record.Get i s) → Keeping l (Record.Get i s) e
     unfolding act stepRange
     get-step i s p = subst (λ i. (e : cs j .latest ≡ Record.Get i s) → Keeping l (Record.Get i s) e) (sym p) (λ e.
         let q : Proper (shaped n z) j (Record.Get j s) = subst (Proper (shaped n z) j) e (u .upper .proper j l) in

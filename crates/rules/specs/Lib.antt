@@ -23,5 +23,6 @@ pub mod Fresh
 pub mod Layouts
 pub mod Events
 pub mod Promise
+pub mod Solo
 pub mod Reopen
 pub mod Exhibit

@@ -2,7 +2,7 @@
 use mathlib.Core.Path.{_≡_}
 use mathlib.Core.List.{List, [], _∷_}
 use Prim.Native.Nat.{ℕ, _-_, _^_}
-use lib.ListN.{length, getD, replicate}
+use lib.ListN.{length, getD, drop, replicate}
 use Rattle.rules.specs.Numbers.{childWords, wordBits, Shape, format1}
 use Rattle.rules.specs.Conversions.{frame, tree}
 use Rattle.rules.specs.Answers.{number, frameOf}
@@ -72,8 +72,27 @@ full = record {
   cpus = cpuWord format1 (CpuEntry.Holds (tree 0) 0 0) ∷ [];
 }
 
+-- zones that have room where a rule that looks less answers 2
+abbrev pub of : ℕ → ℕ → Zone
+of n c = fresh (record { format = format1; huge = n; cpus = c })
+
+pub record Rooms : Type 0 where
+  -- the only tree is in the class allocated from the start: the any pass finds it
+  pub any : session (g 0 0 ∷ []) (of 1 1) .lines ≡ line 0 0 8 ∷ []
+  -- CPU 0's entry holds the only tree, and its count
+  pub steal : session (g 0 0 ∷ g 1 0 ∷ []) (of 1 2) .lines ≡ line 0 0 8 ∷ line 0 1 10 ∷ []
+  -- CPU 0's entry holds the only tree and counts 0; the put of CPU 1 went to the tree
+  pub stealCount : session (g 0 9 ∷ p 1 0 9 ∷ g 1 0 ∷ []) (of 1 2) .lines ≡ line 0 0 7 ∷ line 0 0 3 ∷ line 0 0 10 ∷ []
+  -- a get that found nothing released the only tree
+  pub release : session (g 0 9 ∷ g 0 9 ∷ p 0 0 9 ∷ g 0 9 ∷ []) (of 1 1) .lines ≡ line 0 0 7 ∷ line 2 0 9 ∷ line 0 0 3 ∷ line 0 0 7 ∷ []
+  -- the start child is taken, the last one is free
+  pub child : session (g 0 9 ∷ g 0 9 ∷ []) (of 2 1) .lines ≡ line 0 0 7 ∷ line 0 512 4 ∷ []
+  -- the last tree is the only one with a free frame
+  pub tree : drop 32 (session (replicate 33 (g 0 9)) (of 33 1) .lines) ≡ line 0 16384 15 ∷ []
+
 pub record Worked : Type 0 where
   pub words : Words
+  pub rooms : Rooms
   -- from the zone that create reaches for 65 huge frames and two CPUs, from tables that held anything
   pub table : (z : Zone) → Fitting 65 z → length (z .cpus) ≡ 2 → Table (creates 65 z (createSteps (shaped 65 z)) .zone)
   -- No room in 9 steps
