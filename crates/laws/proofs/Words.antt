@@ -1,18 +1,21 @@
 -- A word's bits: a run of s bits set and cleared, the count of zero bits, and the lowest run that is free. Stated over the run's size.
-use mathlib.Core.Path.{_≡_, sym, ap, _∙_}
+use mathlib.Core.Path.{_≡_, refl, sym, ap, _∙_}
 use mathlib.Core.Logic.{_≢_}
-use Prim.Native.Nat.{ℕ, zero, suc, _+_, _-_, _*_, _/_, _%_, _^_, _≤_, _<_}
+use Prim.Native.Nat.{ℕ, zero, suc, _+_, _-_, _*_, _/_, _%_, _^_, _≤_, _<_, min}
 use native.Mathlib.Omega.{arith}
-use native.Mathlib.Nat.{pow-suc, div-one, mod-lt, mod-one, mul-suc, mul-zero, add-zero, add-suc, suc-add}
+use native.Mathlib.Nat.{pow-suc, div-one, mod-lt, mod-one, mul-suc, mul-zero, add-zero, add-suc, suc-add, add-sub-cancel, lt-of-lt-of-le}
 use native.Mathlib.Numerals.{one-add, add-one}
-use lib.Dec.{eqb}
-use lib.Arith.{digits-mod}
-use lib.Pow.{pow-pos, shr-shr, split, high, mod-pow-add}
+use lib.Dec.{lit<, eqb}
+use lib.Arith.{digits-mod, lt-one}
+use lib.Pow.{pow-pos, pow-mono, shl-lt, shl-exact, shl-shr, shr-shr, split, high, high-ones, ones-lt, mod-pow-add}
+use lib.Bits.{bitAnd, bitOr, and-step, and-high, or-disjoint}
+use lib.Count.{trailingZeros, under, ones as digits-set, ones-step}
 use borrow.Author.Tests.{eqb-true, eqb-false}
-use Rattle.laws.specs.Sum.{run}
+use Rattle.laws.specs.Tests.{pick}
+use Rattle.laws.specs.Sum.{sumTo, run}
 use Rattle.laws.specs.Words.{bit, zeros, ones, bits, lowest}
-use Rattle.laws.proofs.Tests.{pick-elim}
-use Rattle.laws.proofs.Sum.{ran, inside, outside, run-in, run-below, run-above, run-shift, sum-add, sum-run, sum-bound}
+use Rattle.laws.proofs.Tests.{pick-elim, pick-yes, pick-no}
+use Rattle.laws.proofs.Sum.{ran, inside, outside, run-in, run-below, run-above, run-shift, sum-ext, sum-add, sum-cat, sum-run, sum-bound}
 
 -- ---- one digit
 
@@ -148,3 +151,76 @@ lowest-below s (suc m) w zero h = pick-elim (λ x. 0 < x → bits s (s * 0) w �
 lowest-below s (suc m) w (suc i) h = pick-elim (λ x. suc i < x → bits s (s * suc i) w ≢ 0) (eqb (w % 2 ^ s) 0)
     (λ e l. absurd (omega arith))
     (λ e l q. lowest-below s m (w / 2 ^ s) i (omega arith) (sym (run-up s i w) ∙ q)) h
+
+-- ---- in code: a run as a mask, `w & m`, `w | m`, `w & !m`
+
+pub ones-fit : (k s b : ℕ) → b + s ≤ k → ones s b < 2 ^ k
+ones-fit k s b h = lt-of-lt-of-le (shl-lt s b (ones-lt s)) (pow-mono (omega arith))
+
+pub ones-shl : (k s b : ℕ) → b + s ≤ k → ones s b % 2 ^ k ≡ ones s b
+ones-shl k s b h = shl-exact s b k (ones-lt s) (omega arith)
+
+pub and-ones : (s b w : ℕ) → bitAnd w (ones s b) ≡ bits s b w * 2 ^ b
+and-ones s b w = rw (high-ones s b) at (and-high w s b)
+
+pub bits-and : (s b w m : ℕ) → bitAnd w (ones s b) ≡ m * 2 ^ b → bits s b w ≡ m
+bits-and s b w m e = sym (shl-shr (bits s b w) b) ∙ ap (λ x. x / 2 ^ b) (sym (and-ones s b w) ∙ e) ∙ shl-shr m b
+
+pub or-ones : (s b w : ℕ) → bits s b w ≡ 0 → bitOr w (ones s b) ≡ w + ones s b
+or-ones s b w h = or-disjoint w (ones s b) (and-ones s b w ∙ rw h (omega arith))
+
+-- the complement of a number of one digit more: its low digit, and the digits above it
+not-digit : (p w : ℕ) → w < p * 2 → ((p * 2 - 1) - w) % 2 ≡ 1 - w % 2
+not-digit p w h = omega arith
+
+not-half : (p w : ℕ) → w < p * 2 → ((p * 2 - 1) - w) / 2 ≡ (p - 1) - w / 2
+not-half p w h = omega arith
+
+min-not : (r s : ℕ) → r < 2 → s < 2 → min r (1 - s) + min r s ≡ r
+min-not r s p q = omega arith
+
+-- what a mask keeps, and what its complement keeps
+pub and-not : (k w m : ℕ) → w < 2 ^ k → m < 2 ^ k → bitAnd w ((2 ^ k - 1) - m) + bitAnd w m ≡ w
+and-not zero w m h l = rw (lt-one h) refl
+and-not (suc k) w m h l =
+    let h′ : w < 2 ^ k * 2 = rw pow-suc at h in
+    let l′ : m < 2 ^ k * 2 = rw pow-suc at l in
+    let ih = and-not k (w / 2) (m / 2) (omega arith) (omega arith) in
+    let d = min-not (w % 2) (m % 2) (mod-lt w (lit< tt)) (mod-lt m (lit< tt)) in
+    let p : bitAnd w ((2 ^ k * 2 - 1) - m) ≡ bitAnd (w / 2) ((2 ^ k - 1) - m / 2) * 2 + min (w % 2) (1 - m % 2) =
+    rw (and-step w ((2 ^ k * 2 - 1) - m), not-digit (2 ^ k) m l′, not-half (2 ^ k) m l′) in
+    rw pow-suc (omega (arith, and-step w m))
+
+pub and-not-ones : (k s b w : ℕ) → w < 2 ^ k → b + s ≤ k → bits s b w ≡ 2 ^ s - 1 → bitAnd w ((2 ^ k - 1) - ones s b) ≡ w - ones s b
+and-not-ones k s b w h l e =
+    sym (add-sub-cancel (bitAnd w ((2 ^ k - 1) - ones s b)) (bitAnd w (ones s b)))
+    ∙ rw (and-not k w (ones s b) h (ones-fit k s b l), and-ones s b w, e)
+
+-- ---- in code: the counts of a word's digits
+
+pub zeros-suc : (d w : ℕ) → zeros (suc d) w ≡ (1 - w % 2) + zeros d (w / 2)
+unfolding zeros sumTo
+zeros-suc d w =
+    let e = sum-cat 1 d (λ b. 1 - bit b w) in
+    let f = sum-ext d (λ b. 1 - bit (1 + b) w) (λ b. 1 - bit b (w / 2)) (λ b l. rw (one-add b, bit-suc b w)) in
+    ap (λ n. zeros n w) (sym (one-add d)) ∙ omega (arith, e, f, bit-zero w)
+
+pub zeros-ones : (d w : ℕ) → w < 2 ^ d → zeros d w + digits-set w ≡ d
+unfolding zeros sumTo digits-set
+zeros-ones zero w h = rw (lt-one h) refl
+zeros-ones (suc d) w h =
+    let h′ : w < 2 ^ d * 2 = rw pow-suc at h in
+    omega (arith, zeros-suc d w, zeros-ones d (w / 2) (omega arith), ones-step w)
+
+-- the trailing zeros of the complement
+pub trailing-lowest : (k w : ℕ) → w < 2 ^ k → trailingZeros k ((2 ^ k - 1) - w) ≡ lowest 1 k w
+unfolding trailingZeros lowest
+trailing-lowest zero w h = refl
+trailing-lowest (suc k) w h =
+    let h′ : w < 2 ^ k * 2 = rw pow-suc at h in
+    rw (pow-suc, not-digit (2 ^ k) w h′, not-half (2 ^ k) w h′, trailing-lowest k (w / 2) (omega arith)) (go (w % 2) (lowest 1 k (w / 2)) (mod-lt w (lit< tt)))
+  where
+    go : (r t : ℕ) → r < 2 → under (1 - r) t ≡ pick (eqb r 0) 0 (suc t)
+    go zero t h = sym (pick-yes _ _ _ refl)
+    go (suc zero) t h = sym (pick-no _ _ _ refl)
+    go (suc (suc r)) t h = absurd (omega arith)

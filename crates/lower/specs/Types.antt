@@ -1,0 +1,19 @@
+-- The types that src/ declares, and those of the rules, under one name.
+pub use Rattle.rules.specs.declared.Frame.{Frame}
+pub use Rattle.rules.specs.declared.Order.{Order}
+pub use Rattle.rules.specs.declared.ChildEntry.{ChildEntry}
+pub use Rattle.rules.specs.declared.Took.{Took}
+pub use Rattle.rules.specs.declared.Bit.{Bit}
+pub use Rattle.rules.specs.declared.Gave.{Gave}
+pub use Rattle.lower.specs.declared.Fields.{Fields}
+pub use Rattle.lower.specs.declared.Low.{Low}
+pub use Rattle.lower.specs.declared.Claimed.{Claimed}
+pub use Rattle.lower.specs.declared.Taken.{Taken}
+pub use Rattle.lower.specs.declared.Given.{Given}
+pub use Rattle.lower.specs.declared.Stored.{Stored}
+pub use Rattle.lower.specs.declared.Recounted.{Recounted}
+pub use Rattle.lower.specs.declared.Looked.{Looked}
+pub use Rattle.lower.specs.declared.Zeros.{Zeros}
+pub use Rattle.lower.specs.declared.Empty.{Empty}
+pub use Rattle.lower.specs.declared.Summed.{Summed}
+pub use Rattle.lower.specs.declared.Searched.{Searched}
