@@ -35,6 +35,30 @@ fn end() {
     io::write_all(STDOUT_FILENO, b"\n");
 }
 
+fn line2(text: &[u8], a: u64, b: u64) {
+    name(text);
+    number(a);
+    number(b);
+    end();
+}
+
+fn line3(text: &[u8], a: u64, b: u64, c: u64) {
+    name(text);
+    number(a);
+    number(b);
+    number(c);
+    end();
+}
+
+fn line4(text: &[u8], a: u64, b: u64, c: u64, d: u64) {
+    name(text);
+    number(a);
+    number(b);
+    number(c);
+    number(d);
+    end();
+}
+
 // ---- answers as numbers
 
 fn claimed(c: Claimed) -> u64 {
@@ -140,51 +164,36 @@ fn searched(s: Searched) -> u64 {
 fn claim(entry: u16, size: u16) {
     let mut children = [entry];
     let said = claimed(lower::claim(&mut children, 0, size));
-    name(b"claim");
-    number(entry as u64);
-    number(size as u64);
-    number(said);
-    number(wide(children[0]));
-    end();
+    line4(b"claim", entry as u64, size as u64, said, wide(children[0]));
 }
 
 fn give_count(entry: u16, size: u16) {
     let mut children = [entry];
     let said = given(lower::give_count(&mut children, 0, size));
-    name(b"give_count");
-    number(entry as u64);
-    number(size as u64);
-    number(said);
-    number(wide(children[0]));
-    end();
+    line4(
+        b"give_count",
+        entry as u64,
+        size as u64,
+        said,
+        wide(children[0]),
+    );
 }
 
 fn take_huge(entry: u16) {
     let mut children = [entry];
     let said = claimed(lower::take_huge(&mut children, 0));
-    name(b"take_huge");
-    number(entry as u64);
-    number(said);
-    number(wide(children[0]));
-    end();
+    line3(b"take_huge", entry as u64, said, wide(children[0]));
 }
 
 fn clear_huge(entry: u16) {
     let mut children = [entry];
     let said = given(lower::clear_huge(&mut children, 0));
-    name(b"clear_huge");
-    number(entry as u64);
-    number(said);
-    number(wide(children[0]));
-    end();
+    line3(b"clear_huge", entry as u64, said, wide(children[0]));
 }
 
 fn look(entry: u16) {
     let children = [entry];
-    name(b"look");
-    number(entry as u64);
-    number(looked(lower::look(&children, 0)));
-    end();
+    line2(b"look", entry as u64, looked(lower::look(&children, 0)));
 }
 
 // The field has seven words with no zero bit, and the last as given.
@@ -193,12 +202,13 @@ fn store_recount(entry: u16, last: u64) {
     let full = u64::MAX;
     let words = [full, full, full, full, full, full, full, last];
     let said = recounted(lower::store_recount(&mut children, &words, 0));
-    name(b"store_recount");
-    number(entry as u64);
-    number(last);
-    number(said);
-    number(wide(children[0]));
-    end();
+    line4(
+        b"store_recount",
+        entry as u64,
+        last,
+        said,
+        wide(children[0]),
+    );
 }
 
 fn entry(e: u16) {
@@ -244,23 +254,13 @@ fn take_bit(word: usize, value: u64)
 {
     let mut words = field(word, value);
     let said = taken(lower::take_bit(&mut words, 0, word));
-    name(b"take_bit");
-    number(word as u64);
-    number(value);
-    number(said);
-    number(words[word]);
-    end();
+    line4(b"take_bit", word as u64, value, said, words[word]);
 }
 
 fn clear_bit(value: u64, bit: u32) {
     let mut words = field(7, value);
     let said = given(lower::clear_bit(&mut words, 0, 7, bit));
-    name(b"clear_bit");
-    number(value);
-    number(bit as u64);
-    number(said);
-    number(words[7]);
-    end();
+    line4(b"clear_bit", value, bit as u64, said, words[7]);
 }
 
 fn word(w: u64) {
@@ -271,47 +271,137 @@ fn word(w: u64) {
     clear_bit(w, 63);
     clear_bit(w, 64);
     let words = field(7, w);
-    name(b"zero_bits");
-    number(w);
-    number(zeros(lower::zero_bits(&words, 0)));
-    end();
+    line2(b"zero_bits", w, zeros(lower::zero_bits(&words, 0)));
     let alone = [0, 0, 0, 0, 0, 0, 0, w];
-    name(b"field_empty");
-    number(w);
-    number(empty(lower::field_empty(&alone, 0)));
-    end();
+    line2(b"field_empty", w, empty(lower::field_empty(&alone, 0)));
 }
 
 // ---- slices of length 0, one short, right and one long; an index below the length, at it and past it
 
+fn claim_in(children: &mut [u16], at: usize) {
+    line3(
+        b"claim_in",
+        children.len() as u64,
+        at as u64,
+        claimed(lower::claim(children, at, 1)),
+    );
+}
+
+fn take_huge_in(children: &mut [u16], at: usize) {
+    line3(
+        b"take_huge_in",
+        children.len() as u64,
+        at as u64,
+        claimed(lower::take_huge(children, at)),
+    );
+}
+
+fn give_count_in(children: &mut [u16], at: usize) {
+    line3(
+        b"give_count_in",
+        children.len() as u64,
+        at as u64,
+        given(lower::give_count(children, at, 1)),
+    );
+}
+
+fn clear_huge_in(children: &mut [u16], at: usize) {
+    line3(
+        b"clear_huge_in",
+        children.len() as u64,
+        at as u64,
+        given(lower::clear_huge(children, at)),
+    );
+}
+
+fn fresh_child_in(children: &mut [u16], at: usize) {
+    line3(
+        b"fresh_child_in",
+        children.len() as u64,
+        at as u64,
+        stored(lower::store_fresh_child(children, at)),
+    );
+}
+
+fn looks_in(children: &[u16], at: usize) {
+    line3(
+        b"look_in",
+        children.len() as u64,
+        at as u64,
+        looked(lower::look(children, at)),
+    );
+    line2(
+        b"sum_in",
+        children.len() as u64,
+        summed(lower::sum(children)),
+    );
+}
+
+fn take_bit_in(words: &mut [u64], child: usize, at: usize) {
+    line4(
+        b"take_bit_in",
+        words.len() as u64,
+        child as u64,
+        at as u64,
+        taken(lower::take_bit(words, child, at)),
+    );
+}
+
+fn clear_bit_in(words: &mut [u64], child: usize, at: usize) {
+    line4(
+        b"clear_bit_in",
+        words.len() as u64,
+        child as u64,
+        at as u64,
+        given(lower::clear_bit(words, child, at, 0)),
+    );
+}
+
+fn fresh_word_in(words: &mut [u64], at: usize) {
+    line3(
+        b"fresh_word_in",
+        words.len() as u64,
+        at as u64,
+        stored(lower::store_fresh_word(words, at)),
+    );
+}
+
+fn fields_in(words: &[u64], child: usize) {
+    line3(
+        b"zero_bits_in",
+        words.len() as u64,
+        child as u64,
+        zeros(lower::zero_bits(words, child)),
+    );
+    line3(
+        b"field_empty_in",
+        words.len() as u64,
+        child as u64,
+        empty(lower::field_empty(words, child)),
+    );
+    let mut children = [1];
+    line3(
+        b"recount_in",
+        words.len() as u64,
+        child as u64,
+        recounted(lower::store_recount(&mut children, words, child)),
+    );
+}
+
 fn of_children(children: &mut [u16], at: usize) {
-    name(b"children");
-    number(children.len() as u64);
-    number(at as u64);
-    number(claimed(lower::claim(children, at, 1)));
-    number(claimed(lower::take_huge(children, at)));
-    number(given(lower::give_count(children, at, 1)));
-    number(given(lower::clear_huge(children, at)));
-    number(looked(lower::look(children, at)));
-    number(stored(lower::store_fresh_child(children, at)));
-    number(summed(lower::sum(children)));
-    end();
+    claim_in(children, at);
+    take_huge_in(children, at);
+    give_count_in(children, at);
+    clear_huge_in(children, at);
+    looks_in(children, at);
+    fresh_child_in(children, at);
 }
 
 fn of_words(words: &mut [u64], child: usize, at: usize) {
-    name(b"words");
-    number(words.len() as u64);
-    number(child as u64);
-    number(at as u64);
-    number(taken(lower::take_bit(words, child, at)));
-    number(given(lower::clear_bit(words, child, at, 0)));
-    number(stored(lower::store_fresh_word(words, at)));
-    number(zeros(lower::zero_bits(words, child)));
-    number(empty(lower::field_empty(words, child)));
-    let mut children = [1];
-    number(recounted(lower::store_recount(&mut children, words, child)));
-    number(wide(children[0]));
-    end();
+    take_bit_in(words, child, at);
+    clear_bit_in(words, child, at);
+    fields_in(words, child);
+    fresh_word_in(words, at);
 }
 
 fn children_of(at: usize) {
@@ -345,16 +435,15 @@ fn search(start: usize, second: u16, third: u16) {
     let mut children = [0x8000, second, third];
     let mut words = [u64::MAX; 24];
     words[23] = 0x3fff_ffff_ffff_ffff;
-    name(b"search");
-    number(start as u64);
-    number(second as u64);
-    number(third as u64);
-    number(searched(lower::search(&mut children, &mut words, start)));
-    number(wide(children[0]));
-    number(wide(children[1]));
-    number(wide(children[2]));
-    number(words[23]);
-    end();
+    let said = searched(lower::search(&mut children, &mut words, start));
+    line4(b"search", start as u64, second as u64, third as u64, said);
+    line4(
+        b"leaves",
+        wide(children[0]),
+        wide(children[1]),
+        wide(children[2]),
+        words[23],
+    );
 }
 
 fn searches(start: usize) {
@@ -377,11 +466,12 @@ fn search_short() {
 fn too_many() {
     let mut children = [1; 65537];
     let mut words = [0; 8];
-    name(b"too_many");
-    number(summed(lower::sum(&children)));
-    number(summed(lower::sum(&children[..65536])));
-    number(searched(lower::search(&mut children, &mut words, 0)));
-    end();
+    line3(
+        b"too_many",
+        summed(lower::sum(&children)),
+        summed(lower::sum(&children[..65536])),
+        searched(lower::search(&mut children, &mut words, 0)),
+    );
 }
 
 fn main() {

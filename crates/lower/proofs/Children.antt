@@ -6,12 +6,13 @@ use Prim.Native.Nat.{ℕ, _+_, _-_, _≤_, _<_}
 use lib.ListN.{getD, set}
 use borrow.Author.Tests.{lt-leb, le-leb, eq-eqb, ne-eqb}
 use Rattle.laws.specs.Fields.{join}
+use Rattle.laws.specs.Tables.{outcome}
 use Rattle.laws.proofs.Tests.{pick-yes, pick-no}
 use Rattle.rules.specs.Numbers.{childFrames}
 use Rattle.rules.specs.Lower.{childLayout, childSays, countWord, flaggedWord, byChild, claim, takeHuge, giveCount, clearHuge, recount}
 use Rattle.lower.specs.Types.{ChildEntry, Took, Gave, Recounted}
 use Rattle.lower.specs.Steps.{recounted}
-use Rattle.lower.specs.Tables.{outcome, stepAt}
+use Rattle.lower.specs.Tables.{stepAt}
 use Rattle.lower.proofs.Tables.{step-told, step-changed}
 
 module _ (l : List ℕ) (i : ℕ) where

@@ -8,13 +8,14 @@ use native.Mathlib.Omega.{arith}
 use lib.Dec.{eqb}
 use lib.ListN.{length}
 use borrow.Author.Tests.{lt-ltb, le-ltb, lt-leb, le-leb, eq-eqb, ne-eqb, eqb-false}
+use Rattle.laws.specs.Tables.{outcome}
 use Rattle.laws.proofs.Tests.{pick-elim, pick-yes, pick-no}
 use Rattle.rules.specs.Conversions.{frame}
 use Rattle.rules.specs.Lower.{keep, Lowered, childSays, claim, giveCount, takeRun}
 use Rattle.rules.specs.Plan.{byTook, byBit}
 use Rattle.rules.proofs.Guards.{child-elim}
 use Rattle.lower.specs.Types.{Frame, Took, Bit, Gave, Searched}
-use Rattle.lower.specs.Tables.{outcome, stepAt}
+use Rattle.lower.specs.Tables.{stepAt}
 use Rattle.lower.specs.Search.{Search, search, searchWords, nextOf, searchFrom, searchIn}
 use Rattle.lower.proofs.Tables.{step-length, step-kept}
 

@@ -1,16 +1,13 @@
--- What a return of a one-entry step has to show; and that a contract leaves one result only.
+-- What a return of a one-entry step has to show, and what a step leaves of its table.
 use mathlib.Core.Path.{_≡_, refl, sym, ap, _∙_}
 use mathlib.Core.List.{List}
 use Prim.Native.Nat.{ℕ, _≤_, _<_}
 use lib.ListN.{length, getD, set, length-set}
 use borrow.Author.Tests.{lt-ltb, le-ltb}
+use Rattle.laws.specs.Tables.{Outcome, outcome, wrapped}
 use Rattle.laws.proofs.Tests.{pick-yes, pick-no}
 use Rattle.rules.specs.Lower.{Change, keep, become, Lowered, told, changed}
-use Rattle.lower.specs.Tables.{Outcome, outcome, turned, stepAt, wrapped, stepIn}
-
--- two results that a contract permits are equal
-pub same-result : {A : Type 0} (o : Outcome A) (a b : A) (l m : List ℕ) → outcome a l ≡ o → outcome b m ≡ o → (a ≡ b) × (l ≡ m)
-same-result {A} o a b l m p q = (ap (λ (x : Outcome A). x .said) (p ∙ sym q), ap (λ (x : Outcome A). x .table) (p ∙ sym q))
+use Rattle.lower.specs.Tables.{turned, stepAt, stepIn}
 
 module _ {A : Type 0} (f : ℕ → Lowered A) (l : List ℕ) (i : ℕ) where
   -- nothing is stored; v is stored

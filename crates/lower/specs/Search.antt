@@ -4,13 +4,14 @@ use Prim.Native.Nat.{ℕ, zero, suc, _+_, _*_}
 use lib.Dec.{eqb, leb, ltb}
 use lib.ListN.{length}
 use Rattle.laws.specs.Tests.{pick}
+use Rattle.laws.specs.Tables.{Outcome}
 use Rattle.rules.specs.Numbers.{childFrames, childWords, wordBits, mostHuge}
 use Rattle.rules.specs.Conversions.{frame}
 use Rattle.rules.specs.Blocks.{size}
 use Rattle.rules.specs.Lower.{claim, giveCount, takeRun}
 use Rattle.rules.specs.Plan.{byTook, byBit}
 use Rattle.lower.specs.Types.{Order, Took, Bit, Searched}
-use Rattle.lower.specs.Tables.{Outcome, stepAt}
+use Rattle.lower.specs.Tables.{stepAt}
 use Rattle.lower.specs.Steps.{fieldsIn}
 
 -- what was found, and both tables

@@ -4,12 +4,13 @@ use Prim.Native.Nat.{ℕ, _+_, _*_, _/_}
 use lib.Dec.{ltb, leb}
 use lib.ListN.{length, getD}
 use Rattle.laws.specs.Tests.{pick}
+use Rattle.laws.specs.Tables.{Outcome, outcome, wrapped}
 use Rattle.rules.specs.Numbers.{childWords, wordBits, mostHuge}
 use Rattle.rules.specs.Blocks.{size}
 use Rattle.rules.specs.Entries.{field}
 use Rattle.rules.specs.Lower.{Lowered, told, changed, childLayout, childSays, byChild, claim, takeHuge, giveCount, clearHuge, takeRun, clearRun, freshWord, freshChild, recount, zeroBits, emptyField, partSum}
 use Rattle.lower.specs.Types.{Order, Bit, Fields, Low, Claimed, Taken, Given, Stored, Recounted, Looked, Zeros, Empty, Summed}
-use Rattle.lower.specs.Tables.{Outcome, outcome, stepAt, wrapped, stepIn}
+use Rattle.lower.specs.Tables.{stepAt, stepIn}
 
 -- ---- one entry, and one word
 

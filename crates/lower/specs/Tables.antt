@@ -4,14 +4,8 @@ use Prim.Native.Nat.{ℕ}
 use lib.Dec.{ltb}
 use lib.ListN.{length, getD, set}
 use Rattle.laws.specs.Tests.{pick}
+use Rattle.laws.specs.Tables.{Outcome, outcome, wrapped}
 use Rattle.rules.specs.Lower.{Change, keep, become, Lowered}
-
-pub record Outcome (A : Type 0) : Type 0 where
-  pub said : A
-  pub table : List ℕ
-
-abbrev pub outcome : {A : Type 0} → A → List ℕ → Outcome A
-outcome a l = record { said = a; table = l }
 
 -- entry i as it was, or another
 unfoldable pub turned : List ℕ → ℕ → Change ℕ → List ℕ
@@ -21,10 +15,6 @@ turned l i (become v) = set l i v
 -- the step f on entry i
 unfoldable pub stepAt : {A : Type 0} → (ℕ → Lowered A) → List ℕ → ℕ → Outcome A
 stepAt f l i = outcome (f (getD l i 0) .said) (turned l i (f (getD l i 0) .change))
-
--- what was said, said to the caller
-abbrev pub wrapped : {A B : Type 0} → (A → B) → Outcome A → Outcome B
-wrapped f o = outcome (f (o .said)) (o .table)
 
 -- the step f on entry i, if the table has one; if not, nothing is stored
 unfoldable pub stepIn : {A B : Type 0} → (A → B) → B → (ℕ → Lowered A) → List ℕ → ℕ → Outcome B

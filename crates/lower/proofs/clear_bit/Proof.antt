@@ -1,7 +1,7 @@
 use mathlib.Core.Path.{sym, ap, _∙_}
 use borrow.Author.Tests.{lt-ltb, le-ltb}
+use Rattle.laws.specs.Tables.{wrapped}
 use Rattle.laws.proofs.Tests.{pick-yes, pick-no}
-use Rattle.lower.specs.Tables.{wrapped}
 use Rattle.lower.specs.Types.{Given}
 use Rattle.lower.specs.Steps.{clearBitIn}
 use borrow.Author.Needs.{needs}
