@@ -1,2 +1,3 @@
 pub mod Ranges
 pub mod Next
+pub mod Blocks
