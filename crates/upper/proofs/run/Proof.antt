@@ -1,0 +1,97 @@
+use mathlib.Core.Path.{_≡_, refl, sym, _∙_}
+use Prim.Native.Nat.{_-_, _≤_}
+use native.Mathlib.Nat.{sub-zero}
+use lib.ListN.{length}
+use borrow.Author.Needs.{needs}
+use Rattle.rules.specs.Step.{step, follow, runs}
+use Rattle.upper.specs.Types.{Answer}
+use Rattle.upper.specs.Results.{zone}
+use Rattle.upper.proofs.Stepped.{run-out, run-goes, run-ends}
+use Rattle.upper.proofs.run.Statement.{statement}
+use Rattle.upper.proofs.run.Tie as tie
+
+abbrev Inv-loop : tie.InvT-loop
+Inv-loop header words₀ children₀ trees₀ cpus₀ fuel at₀ steps₀ words children trees cpus at steps =
+    (length words ≡ length words₀) × (length children ≡ length children₀) × (length trees ≡ length trees₀) × (length cpus ≡ length cpus₀) × (steps ≤ fuel) × (follow step (fuel - steps) steps (Answer.UnderWay at) (zone header words children trees cpus) ≡ runs fuel (zone header words₀ children₀ trees₀ cpus₀) at₀)
+
+abbrev μ-loop : tie.MeasureT-loop
+μ-loop header words₀ children₀ trees₀ cpus₀ fuel at₀ steps₀ words children trees cpus at steps = fuel - steps
+
+loop-holds : tie.Need-loop-holds Inv-loop μ-loop
+loop-holds c = (refl, refl, refl, refl, search needs, rw sub-zero refl)
+
+step-requires : tie.Need-step-requires Inv-loop μ-loop
+step-requires c κs = search needs
+
+add-steps : tie.Need-add-steps Inv-loop μ-loop
+add-steps c = search needs
+
+next-of-requires : tie.Need-next-of-requires Inv-loop μ-loop
+next-of-requires c κs = search needs
+
+enum-told : tie.Need-enum-told Inv-loop μ-loop
+enum-told c = search needs
+
+same-length : tie.Need-same-length Inv-loop μ-loop
+same-length c = search needs
+
+same-length-2 : tie.Need-same-length-2 Inv-loop μ-loop
+same-length-2 c = search needs
+
+same-length-3 : tie.Need-same-length-3 Inv-loop μ-loop
+same-length-3 c = search needs
+
+same-length-4 : tie.Need-same-length-4 Inv-loop μ-loop
+same-length-4 c = search needs
+
+returns : tie.Need-returns Inv-loop μ-loop
+returns c = run-ends _ _ _ _ (search needs) (c .before .before .before .before .before .before .before .before .before .before .before .step .ensures) (c .before .before .next-of .ensures) (c .enum-told .given .1) ∙ c .before .before .before .before .before .before .before .before .before .before .before .before .before .before .before .before .before .loop .inv .5
+
+enum-known-next : tie.Need-enum-known-next Inv-loop μ-loop
+enum-known-next c = search needs
+
+loop-less : tie.Need-loop-less Inv-loop μ-loop
+loop-less c = search needs
+
+loop-again : tie.Need-loop-again Inv-loop μ-loop
+loop-again c = (search needs, search needs, search needs, search needs, search needs, sym (run-goes _ _ _ _ (search needs) (c .before .before .before .before .before .before .before .before .before .before .before .before .step .ensures) (c .before .before .before .next-of .ensures) (c .before .next .given .1)) ∙ c .before .before .before .before .before .before .before .before .before .before .before .before .before .before .before .before .before .before .loop .inv .5)
+
+same-length-5 : tie.Need-same-length-5 Inv-loop μ-loop
+same-length-5 c = search needs
+
+same-length-6 : tie.Need-same-length-6 Inv-loop μ-loop
+same-length-6 c = search needs
+
+same-length-7 : tie.Need-same-length-7 Inv-loop μ-loop
+same-length-7 c = search needs
+
+same-length-8 : tie.Need-same-length-8 Inv-loop μ-loop
+same-length-8 c = search needs
+
+returns-2 : tie.Need-returns-2 Inv-loop μ-loop
+returns-2 c = run-out _ _ _ _ (c .loop-test .left) ∙ c .before .loop .inv .5
+
+pub run-spec : {M : Type 1} → statement M
+run-spec =
+    tie.close
+    (tie.spec
+    Inv-loop
+    μ-loop
+    loop-holds
+    step-requires
+    add-steps
+    next-of-requires
+    enum-told
+    same-length
+    same-length-2
+    same-length-3
+    same-length-4
+    returns
+    enum-known-next
+    loop-less
+    loop-again
+    same-length-5
+    same-length-6
+    same-length-7
+    same-length-8
+    returns-2)
