@@ -10,9 +10,9 @@ use Rattle.laws.specs.Tables.{Outcome, outcome, wrapped}
 use Rattle.rules.specs.Numbers.{Shape, capacity}
 use Rattle.rules.specs.Entries.{treeSays, treeWord}
 use Rattle.rules.specs.Lower.{Change, keep, become}
-use Rattle.rules.specs.Plan.{Tally, byChange, byTree}
-use Rattle.entries.specs.Types.{Tree, TreeEntry}
-use Rattle.entries.specs.Turns.{Turn, treeTurned, onTree, within}
+use Rattle.rules.specs.Plan.{Made, Tally, byChange, byTree}
+use Rattle.entries.specs.Types.{Tree, TreeEntry, Answer}
+use Rattle.entries.specs.Turns.{Turn, turn, treeTurned, onTree, within}
 
 module _ {A B : Type 0} (h : A → B) where
   abbrev pub mapped : {E : Type 0} → Turn E A → Turn E B
@@ -47,3 +47,9 @@ module _ {A B : Type 0} (h : A → B) where
         go : (e : TreeEntry) → wrapped h (byTree e (outcome damaged l) (λ r k. treeTurned g damaged t (f r k) l)) ≡ byTree e (outcome (h damaged) l) (λ r k. treeTurned g (h damaged) t (f′ r k) l)
         go TreeEntry.Damaged = refl
         go (TreeEntry.Counts r k) = turned-mapped (f r k) ∙ ap (λ m. treeTurned g (h damaged) t m l) (same r k)
+
+-- two cases of what is said are the rule's two cases
+pub both-cases : {E A : Type 0} (h : A → Answer) (b : Bool) (x y : Turn E A) (x′ y′ : Made E) → mapped h x ≡ turn x′ → mapped h y ≡ turn y′ → mapped h (pick b x y) ≡ turn (pick b x′ y′)
+unfolding pick
+both-cases h true x y x′ y′ p q = p
+both-cases h false x y x′ y′ p q = q

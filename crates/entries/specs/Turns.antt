@@ -8,8 +8,8 @@ use Rattle.laws.specs.Tables.{Outcome, outcome}
 use Rattle.rules.specs.Numbers.{Shape, capacity}
 use Rattle.rules.specs.Entries.{treeSays, treeWord}
 use Rattle.rules.specs.Lower.{Change, keep, become}
-use Rattle.rules.specs.Plan.{Tally, byChange, byTree}
-use Rattle.entries.specs.Types.{Tree}
+use Rattle.rules.specs.Plan.{Made, Tally, byChange, byTree}
+use Rattle.entries.specs.Types.{Tree, Answer}
 
 pub record Turn (E A : Type 0) : Type 0 where
   pub change : Change E
@@ -21,6 +21,10 @@ looks a = record { change = keep; said = a }
 
 abbrev pub stores : {E A : Type 0} → E → A → Turn E A
 stores e a = record { change = become e; said = a }
+
+-- what a rule makes of an entry: its answer is said
+abbrev pub turn : {E : Type 0} → Made E → Turn E Answer
+turn m = record { change = m .change; said = m .answer }
 
 module _ {A : Type 0} (g : Shape) (damaged : A) where
   -- tree t's entry

@@ -3,6 +3,7 @@ pub use Rattle.rules.specs.declared.Tree.{Tree}
 pub use Rattle.rules.specs.declared.Header.{Header}
 pub use Rattle.rules.specs.declared.TreeEntry.{TreeEntry}
 pub use Rattle.rules.specs.declared.Pass.{Pass}
+pub use Rattle.rules.specs.declared.Answer.{Answer}
 pub use Rattle.entries.specs.declared.Size.{Size}
 pub use Rattle.entries.specs.declared.Zoned.{Zoned}
 pub use Rattle.entries.specs.declared.Stored.{Stored}

@@ -7,7 +7,7 @@ use native.Mathlib.Omega.{arith}
 use lib.Dec.{leb}
 use lib.ListN.{getD}
 use borrow.Author.Tests.{leb-true, le-leb, not-false}
-use Rattle.laws.specs.Tests.{pick, Check, _is_, passes, Passes}
+use Rattle.laws.specs.Tests.{pick, Check, passes, Passes}
 use Rattle.laws.proofs.Tests.{pick-elim, pick-yes, all-passed, passes-of}
 use Rattle.rules.specs.Types.{Tree, ChildEntry, TreeEntry, CpuEntry, Took, Bit, Gave, Answer}
 use Rattle.rules.specs.Numbers.{childWords, Shape, perTree, capacity}

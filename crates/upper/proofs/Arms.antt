@@ -23,10 +23,12 @@ use Rattle.rules.proofs.Shapes.{tree-in, number-in}
 use Rattle.rules.proofs.Falls.{pass-tree, place-tree}
 use Rattle.places.specs.Shapes.{shapeOf, ranged}
 use Rattle.places.proofs.Ranges.{trees-same}
-use Rattle.stages.specs.Tables.{inCpus, inTrees}
-use Rattle.parts.specs.Tables.{inChildren, inWords, eighth}
+use Rattle.cpu_stages.specs.Tables.{inCpus}
+use Rattle.tree_stages.specs.Tables.{inTrees}
+use Rattle.child_stages.specs.Tables.{inChildren}
+use Rattle.word_stages.specs.Tables.{inWords, eighth}
 use Rattle.upper.specs.Types.{Tree, Order, Giving, CpuEntry, Answer, Shape}
-use Rattle.upper.specs.Results.{zone, Result, result, done, Fits}
+use Rattle.calls.specs.Results.{zone, Result, result, done, Fits}
 use Rattle.upper.proofs.Carried.{withCpus, withTrees, withChildren, withWords, cpu-carried, tree-carried, child-carried, word-carried}
 
 -- the entry that a step reads is one of the zone's

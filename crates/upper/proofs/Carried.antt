@@ -14,13 +14,16 @@ use Rattle.rules.specs.Entries.{treeWord, cpuWord}
 use Rattle.rules.specs.Lower.{Change, keep, become}
 use Rattle.rules.specs.Zone.{Zone, Store, nothing, stored, treeEntryAt, cpuEntryAt}
 use Rattle.rules.specs.Plan.{Plan, refuse, Made, made, Tally, cpuEntry, treeEntry, childEntry, wordEntry, byChange, byCpu, byTree, laidOut, toCpu, toTree, toChild, toWord, carried}
-use Rattle.entries.specs.Turns.{treeTurned, onTree}
+use Rattle.entries.specs.Turns.{turn, treeTurned, onTree}
 use Rattle.entries.proofs.Turns.{within-in}
 use Rattle.cpu_entries.specs.Turns.{cpuTurned, onCpu}
-use Rattle.stages.specs.Tables.{turn, inCpus, inTrees}
-use Rattle.parts.specs.Tables.{madeAt, madeIn, inChildren, inWords}
+use Rattle.cpu_stages.specs.Tables.{inCpus}
+use Rattle.tree_stages.specs.Tables.{inTrees}
+use Rattle.lending.specs.Tables.{madeAt, madeIn}
+use Rattle.child_stages.specs.Tables.{inChildren}
+use Rattle.word_stages.specs.Tables.{inWords}
 use Rattle.upper.specs.Types.{Tree, TreeEntry, CpuEntry, Answer}
-use Rattle.upper.specs.Results.{zone, Result, result, done}
+use Rattle.calls.specs.Results.{zone, Result, result, done}
 
 module _ (g : Shape) (z : Zone) where
   -- a zone with another table

@@ -1,5 +1,3 @@
 pub mod Carried
 pub mod Arms
-pub mod Opened
-pub mod Begun
 pub mod Stepped

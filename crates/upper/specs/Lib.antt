@@ -1,2 +1,1 @@
 pub mod Types
-pub mod Results

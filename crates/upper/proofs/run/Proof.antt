@@ -5,8 +5,8 @@ use lib.ListN.{length}
 use borrow.Author.Needs.{needs}
 use Rattle.rules.specs.Step.{step, follow, runs}
 use Rattle.upper.specs.Types.{Answer}
-use Rattle.upper.specs.Results.{zone}
-use Rattle.upper.proofs.Stepped.{run-out, run-goes, run-ends}
+use Rattle.calls.specs.Results.{zone}
+use Rattle.calls.proofs.Runs.{run-out, run-goes, run-ends}
 use Rattle.upper.proofs.run.Statement.{statement}
 use Rattle.upper.proofs.run.Tie as tie
 
@@ -45,7 +45,7 @@ same-length-4 : tie.Need-same-length-4 Inv-loop μ-loop
 same-length-4 c = search needs
 
 returns : tie.Need-returns Inv-loop μ-loop
-returns c = run-ends _ _ _ _ (search needs) (c .before .before .before .before .before .before .before .before .before .before .before .step .ensures) (c .before .before .next-of .ensures) (c .enum-told .given .1) ∙ c .before .before .before .before .before .before .before .before .before .before .before .before .before .before .before .before .before .loop .inv .5
+returns c = run-ends step _ _ _ _ (search needs) (c .before .before .before .before .before .before .before .before .before .before .before .step .ensures) (c .before .before .next-of .ensures) (c .enum-told .given .1) ∙ c .before .before .before .before .before .before .before .before .before .before .before .before .before .before .before .before .before .loop .inv .5
 
 enum-known-next : tie.Need-enum-known-next Inv-loop μ-loop
 enum-known-next c = search needs
@@ -54,7 +54,7 @@ loop-less : tie.Need-loop-less Inv-loop μ-loop
 loop-less c = search needs
 
 loop-again : tie.Need-loop-again Inv-loop μ-loop
-loop-again c = (search needs, search needs, search needs, search needs, search needs, sym (run-goes _ _ _ _ (search needs) (c .before .before .before .before .before .before .before .before .before .before .before .before .step .ensures) (c .before .before .before .next-of .ensures) (c .before .next .given .1)) ∙ c .before .before .before .before .before .before .before .before .before .before .before .before .before .before .before .before .before .before .loop .inv .5)
+loop-again c = (search needs, search needs, search needs, search needs, search needs, sym (run-goes step _ _ _ _ (search needs) (c .before .before .before .before .before .before .before .before .before .before .before .before .step .ensures) (c .before .before .before .next-of .ensures) (c .before .next .given .1)) ∙ c .before .before .before .before .before .before .before .before .before .before .before .before .before .before .before .before .before .before .loop .inv .5)
 
 same-length-5 : tie.Need-same-length-5 Inv-loop μ-loop
 same-length-5 c = search needs
@@ -69,7 +69,7 @@ same-length-8 : tie.Need-same-length-8 Inv-loop μ-loop
 same-length-8 c = search needs
 
 returns-2 : tie.Need-returns-2 Inv-loop μ-loop
-returns-2 c = run-out _ _ _ _ (c .loop-test .left) ∙ c .before .loop .inv .5
+returns-2 c = run-out step _ _ _ _ (c .loop-test .left) ∙ c .before .loop .inv .5
 
 pub run-spec : {M : Type 1} → statement M
 run-spec =

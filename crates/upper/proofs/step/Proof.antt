@@ -2,8 +2,9 @@ use mathlib.Core.Path.{sym, _∙_}
 use borrow.Author.Needs.{needs}
 use Rattle.rules.specs.Ranges.{stepRange}
 use Rattle.rules.specs.Step.{act}
-use Rattle.upper.proofs.Opened.{checked-open}
-use Rattle.upper.proofs.Stepped.{step-refused, step-out, step-acts, never-passes, cpu-out, stage-out, all-in}
+use Rattle.calls.proofs.Opened.{checked-open}
+use Rattle.calls.proofs.Stored.{never-passes}
+use Rattle.upper.proofs.Stepped.{step-refused, step-out, step-acts, cpu-out, stage-out, all-in}
 use Rattle.upper.proofs.step.Statement.{statement}
 use Rattle.upper.proofs.step.Tie as tie
 

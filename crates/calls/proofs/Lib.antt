@@ -1,0 +1,4 @@
+pub mod Opened
+pub mod Answered
+pub mod Stored
+pub mod Runs

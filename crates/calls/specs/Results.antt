@@ -1,0 +1,50 @@
+-- What a call answers, with all five tables as it leaves them.
+use mathlib.Core.Path.{_≡_}
+use mathlib.Core.List.{List}
+use Prim.Native.Nat.{ℕ}
+use lib.ListN.{length}
+use Rattle.laws.specs.Tests.{pick, passes, Passes}
+use Rattle.rules.specs.Zone.{Zone}
+use Rattle.rules.specs.Answers.{byAnswer}
+use Rattle.rules.specs.Plan.{Plan}
+use Rattle.rules.specs.Step.{after, Ran, ran}
+use Rattle.entries.specs.Sizes.{zonedIn, lengthsOf}
+use Rattle.calls.specs.Types.{Answer, Zoned, Shape, Checked, Next, Ended}
+
+abbrev pub zone : List ℕ → List ℕ → List ℕ → List ℕ → List ℕ → Zone
+zone h w c t p = record { header = h; words = w; children = c; trees = t; cpus = p }
+
+pub record Result : Type 0 where
+  pub answer : Answer
+  pub zone : Zone
+
+abbrev pub result : Answer → Zone → Result
+result a z = record { answer = a; zone = z }
+
+-- the plan of a call, carried out
+abbrev pub done : Zone → Plan → Result
+done z p = result (p .answer) (after z p)
+
+-- a run of steps: its answer, the steps made, and the tables after the last of them
+abbrev pub ranTo : Ended → Zone → Ran
+ranTo r z = ran (r .answer) (r .steps) z
+
+-- ---- what every call on an open zone refuses first
+
+unfoldable pub checkedAs : Zoned → ℕ → ℕ → ℕ → ℕ → Checked
+checkedAs Zoned.NoHeader w c t p = Checked.Refused Answer.BadBuffers
+checkedAs Zoned.NotAZone w c t p = Checked.Refused Answer.NotAZone
+checkedAs (Zoned.Running m) w c t p = pick (passes (lengthsOf m w c t p)) (Checked.Zone (record { size = m; cpus = p })) (Checked.Refused Answer.BadBuffers)
+checkedAs (Zoned.Clean m) w c t p = Checked.Refused Answer.Closed
+
+abbrev pub checked : List ℕ → ℕ → ℕ → ℕ → ℕ → Checked
+checked h = checkedAs (zonedIn h)
+
+-- tables of the lengths that the shape asks for
+pub record Fits (s : Shape) (ws cs ts ps : List ℕ) : Type 0 where
+  pub lengths : Passes (lengthsOf (s .size) (length ws) (length cs) (length ts) (length ps))
+  pub cpus : s .cpus ≡ length ps
+
+-- ---- the record that an answer goes on with
+abbrev pub nextIn : Answer → Next
+nextIn a = byAnswer a (λ f. Next.Ends) Next.GoesOn Next.Ends

@@ -1,0 +1,52 @@
+use mathlib.Core.Path.{refl}
+use borrow.Author.Needs.{needs}
+use Rattle.rules.specs.Give.{give}
+use Rattle.rules.specs.Lower.{giveCount}
+use Rattle.rules.specs.Plan.{plain}
+use Rattle.child_stages.specs.Tables.{inChildren}
+use Rattle.places.proofs.Blocks.{block-out}
+use Rattle.child_stages.proofs.Rules.{given-there}
+use Rattle.child_stages.proofs.raise.Statement.{statement}
+use Rattle.child_stages.proofs.raise.Tie as tie
+
+block-at-requires : tie.Need-block-at-requires
+block-at-requires c κs = search needs
+
+enum-told : tie.Need-enum-told
+enum-told c = search needs
+
+enum-known-tree : tie.Need-enum-known-tree
+enum-known-tree c = search needs
+
+give-count-requires : tie.Need-give-count-requires
+give-count-requires c κs = search needs
+
+put-requires : tie.Need-put-requires
+put-requires c κs = search needs
+
+given-answer-requires : tie.Need-given-answer-requires
+given-answer-requires c κs = search needs
+
+returns : tie.Need-returns
+returns c = block-out _ _ _ _ (c .before .before .block-at .ensures) (c .enum-told .given .1)
+
+same-length : tie.Need-same-length
+same-length c = search needs
+
+returns-2 : tie.Need-returns-2
+unfolding give inChildren
+returns-2 c = given-there _ _ _ _ (c .before .before .before .before .before .before .before .before .before .block-at .ensures) (c .before .before .before .before .before .before .before .tree .given .1) _ plain (rw (c .before .put .ensures) at (c .given-answer .ensures)) (giveCount 1) (c .before .before .before .before .give-count .ensures) refl
+
+pub raise-spec : {M : Type 1} → statement M
+raise-spec =
+    tie.close
+    (tie.spec
+    block-at-requires
+    enum-told
+    enum-known-tree
+    give-count-requires
+    put-requires
+    given-answer-requires
+    returns
+    same-length
+    returns-2)

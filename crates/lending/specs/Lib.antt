@@ -1,0 +1,3 @@
+pub mod Types
+pub mod Tables
+pub mod Answers

@@ -1,0 +1,64 @@
+use mathlib.Core.Path.{_≡_, sym, _∙_}
+use mathlib.Core.Bool.{true}
+use Prim.Native.Nat.{_-_, _≤_}
+use native.Mathlib.Omega.{arith}
+use lib.Dec.{eqb}
+use lib.ListN.{length, getD}
+use borrow.Author.Tests.{le-leb, lt-leb}
+use Rattle.laws.specs.Tests.{pick, every}
+use Rattle.laws.proofs.Tests.{pick-yes, pick-no}
+use Rattle.rules.specs.Lower.{isFlagged, countIn, zeroBits}
+use Rattle.looks.specs.Looks.{childrenSettledIn}
+use Rattle.looks.proofs.Loops.{none-yet, one-more, one-fails, all-done}
+use Rattle.looks.proofs.Entries.{settled-same}
+use Rattle.looks.proofs.children_settled.Statement.{statement}
+use Rattle.looks.proofs.children_settled.Tie as tie
+use borrow.Author.Needs.{needs}
+
+abbrev Inv-loop : tie.InvT-loop
+Inv-loop children words child₀ child = (child ≤ length children) × (every child (λ i. pick (isFlagged (getD children i 0)) true (eqb (countIn (getD children i 0)) (zeroBits words i))) ≡ true)
+
+abbrev μ-loop : tie.MeasureT-loop
+μ-loop children words child₀ child = length children - child
+
+returns : tie.Need-returns Inv-loop μ-loop
+unfolding childrenSettledIn
+returns c = sym (pick-no _ _ _ (lt-leb _ _ (c .if1 .taken)))
+
+loop-holds : tie.Need-loop-holds Inv-loop μ-loop
+loop-holds c = (omega arith, none-yet _)
+
+child-settled-requires : tie.Need-child-settled-requires Inv-loop μ-loop
+child-settled-requires c κs = search needs
+
+returns-2 : tie.Need-returns-2 Inv-loop μ-loop
+unfolding childrenSettledIn
+returns-2 c = one-fails _ _ _ (omega arith) (c .before .child-settled .ensures ∙ settled-same _ _ (omega arith) _ (omega arith)) (c .if2 .taken) ∙ sym (pick-yes _ _ _ (le-leb _ _ (c .before .before .before .before .if1 .left)))
+
+add-child : tie.Need-add-child Inv-loop μ-loop
+add-child c = search needs
+
+loop-less : tie.Need-loop-less Inv-loop μ-loop
+loop-less c = search needs
+
+loop-again : tie.Need-loop-again Inv-loop μ-loop
+loop-again c = (omega arith, one-more _ _ (c .before .before .before .loop .inv .1) (c .before .child-settled .ensures ∙ settled-same _ _ (omega arith) _ (omega arith)) (c .if2 .left))
+
+returns-3 : tie.Need-returns-3 Inv-loop μ-loop
+unfolding childrenSettledIn
+returns-3 c = all-done _ _ _ (c .before .loop .inv .1) (omega arith) (omega arith) ∙ sym (pick-yes _ _ _ (le-leb _ _ (c .before .before .if1 .left)))
+
+pub children-settled-spec : {M : Type 1} → statement M
+children-settled-spec =
+    tie.close
+    (tie.spec
+    Inv-loop
+    μ-loop
+    returns
+    loop-holds
+    child-settled-requires
+    returns-2
+    add-child
+    loop-less
+    loop-again
+    returns-3)

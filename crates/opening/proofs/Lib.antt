@@ -1,0 +1,3 @@
+pub mod Refusals
+pub mod Stages
+pub mod Steps
