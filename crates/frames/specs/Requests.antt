@@ -1,0 +1,16 @@
+-- A line as a request.
+use Prim.Native.Nat.{ℕ}
+use Rattle.rules.specs.Conversions.{frame}
+use Rattle.rules.specs.Zone.{Zone}
+use Rattle.rules.specs.Begin.{beginGet, beginPut}
+use Rattle.requests.specs.declared.Line.{Line}
+use Rattle.frames.specs.declared.Begun.{Begun}
+
+-- more steps than any operation takes on 256 huge frames and 8 CPUs
+abbrev pub fuel : ℕ
+fuel = 1000000
+
+abbrev pub begunBy : Zone → Line → Begun
+begunBy z (Line.Zone h c) = Begun.NoRequest
+begunBy z (Line.Get cpu o) = Begun.Answered (beginGet z cpu o .answer)
+begunBy z (Line.Put cpu f o) = Begun.Answered (beginPut z cpu (frame f) o .answer)

@@ -1,0 +1,3 @@
+pub mod Scans
+pub mod InPieces
+pub mod Table

@@ -1,0 +1,145 @@
+//! Gets and puts under way: beginnings, record ranges and the step.
+
+use crate::answer::{Answer, Refusal};
+use crate::fault::Fault;
+use crate::get::Get;
+use crate::layout::CHILD_FRAMES;
+use crate::put::Put;
+use crate::zone::{Step, Zone};
+
+#[derive(Clone, Copy, Debug, PartialEq, Eq)]
+pub enum Order {
+    /// Order 0, one base frame.
+    Base,
+    /// Order 9, one huge frame.
+    Huge,
+}
+
+impl Order {
+    pub fn from_number(number: u64) -> Option<Self> {
+        match number {
+            0 => Some(Order::Base),
+            9 => Some(Order::Huge),
+            _ => None,
+        }
+    }
+
+    pub fn number(self) -> u64 {
+        match self {
+            Order::Base => 0,
+            Order::Huge => 9,
+        }
+    }
+
+    /// Base frames of a block.
+    pub fn size(self) -> usize {
+        match self {
+            Order::Base => 1,
+            Order::Huge => CHILD_FRAMES,
+        }
+    }
+}
+
+/// The record of a get or a put.
+#[derive(Clone, Copy, Debug, PartialEq, Eq)]
+pub enum Operation {
+    Finished,
+    Get(Get),
+    Put(Put),
+}
+
+impl Answer<Operation> {
+    /// The record handed back: the next one, or the finished one.
+    pub fn operation(self) -> Operation {
+        self.under_way().unwrap_or(Operation::Finished)
+    }
+}
+
+/// The first refusal whose condition holds.
+fn first_refusal(checks: &[(bool, Refusal)]) -> Result<(), Refusal> {
+    match checks.iter().find(|(refused, _)| *refused) {
+        Some(&(_, refusal)) => Err(refusal),
+        None => Ok(()),
+    }
+}
+
+impl Zone {
+    pub fn begin_get(&mut self, cpu: u64, order: u64) -> Answer<Operation> {
+        match self.check_get(cpu, order) {
+            Err(refusal) => Answer::Refused(refusal),
+            Ok(order) => Answer::UnderWay(Operation::Get(Get::new(cpu as usize, order))),
+        }
+    }
+
+    fn check_get(&self, cpu: u64, order: u64) -> Result<Order, Refusal> {
+        self.check_running()?;
+        let known = Order::from_number(order);
+        let mut checks = [
+            (self.bad_cpu(cpu), Refusal::BadCpu),
+            (known.is_none(), Refusal::BadOrder),
+        ];
+        if self.has(Fault::Swap73) {
+            checks.swap(0, 1);
+        }
+        first_refusal(&checks)?;
+        known.ok_or(Refusal::BadOrder)
+    }
+
+    pub fn begin_put(&mut self, cpu: u64, frame: u64, order: u64) -> Answer<Operation> {
+        match self.check_put(cpu, frame, order) {
+            Err(refusal) => Answer::Refused(refusal),
+            Ok(order) => Answer::UnderWay(Operation::Put(Put::new(cpu as usize, frame, order))),
+        }
+    }
+
+    fn check_put(&self, cpu: u64, frame: u64, order: u64) -> Result<Order, Refusal> {
+        self.check_running()?;
+        let known = Order::from_number(order);
+        let mut checks = [
+            (self.bad_cpu(cpu), Refusal::BadCpu),
+            (known.is_none(), Refusal::BadOrder),
+            (self.bad_frame(frame), Refusal::BadFrame),
+            (misaligned(frame, known), Refusal::Misaligned),
+        ];
+        match self.fault {
+            Some(Fault::Swap73) => checks.swap(0, 1),
+            Some(Fault::Swap74) => checks.swap(0, 2),
+            Some(Fault::Swap75) => checks.swap(0, 3),
+            Some(Fault::Swap34) => checks.swap(1, 2),
+            Some(Fault::Swap45) => checks.swap(2, 3),
+            _ => {}
+        }
+        first_refusal(&checks)?;
+        known.ok_or(Refusal::BadOrder)
+    }
+
+    fn bad_cpu(&self, cpu: u64) -> bool {
+        let cpus = self.cpus.len() as u64;
+        cpu > cpus || (cpu == cpus && !self.has(Fault::CpuEdge))
+    }
+
+    fn bad_frame(&self, frame: u64) -> bool {
+        let frames = self.frames();
+        frame > frames || (frame == frames && !self.has(Fault::FrameEdge))
+    }
+
+    /// One step of an operation under way.
+    pub fn step(&mut self, operation: Operation) -> Answer<Operation> {
+        let step = self.operation_step(operation);
+        self.settle(step)
+    }
+
+    fn operation_step(&self, operation: Operation) -> Step<Operation> {
+        self.check_running()?;
+        match operation {
+            Operation::Get(get) if self.get_in_range(&get) => self.get_step(get),
+            Operation::Put(put) if self.put_in_range(&put) => self.put_step(put),
+            _ => Err(Refusal::BadRecord),
+        }
+    }
+}
+
+/// Whether a huge block would start inside a huge frame.
+pub fn misaligned(frame: u64, order: Option<Order>) -> bool {
+    order == Some(Order::Huge) && !frame.is_multiple_of(CHILD_FRAMES as u64)
+}

@@ -1,0 +1,9 @@
+//! The reference's tests.
+
+mod common;
+mod comparisons;
+mod interleavings;
+mod layouts;
+mod refusals;
+mod rules;
+mod sessions;
