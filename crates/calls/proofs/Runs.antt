@@ -12,18 +12,18 @@ use Rattle.calls.specs.Types.{Record, Answer, Next}
 use Rattle.calls.specs.Results.{Result, result, done, nextIn}
 
 -- what the next record tells of the answer
-abbrev NextTells : Answer → Next → Type 0
+abbrev pub NextTells : Answer → Next → Type 0
 NextTells a (Next.GoesOn x) = a ≡ Answer.UnderWay x
 NextTells a Next.Ends = nextOf a ≡ ends
 
-next-tells : (a : Answer) → NextTells a (nextIn a)
+pub next-tells : (a : Answer) → NextTells a (nextIn a)
 next-tells a = answer-elim (NextTells a) a (λ b. Next.Ends) Next.GoesOn Next.Ends (λ b q. ap nextOf q) (λ r q. q) ended
   where
     ended : 2 ≤ number a → nextOf a ≡ ends
     ended l = answer-elim (λ x. x ≡ ends) a (λ b. ends) goesOn ends (λ b q. refl) (λ r q. let n : number a ≡ 1 = ap number q in absurd (omega arith)) (λ k. refl)
 
 -- an answer that ends the operation is the run's
-follow-ended : (f : Zone → Record → Plan) (n k : ℕ) (a : Answer) (z : Zone) → nextOf a ≡ ends → follow f n k a z ≡ ran a k z
+pub follow-ended : (f : Zone → Record → Plan) (n k : ℕ) (a : Answer) (z : Zone) → nextOf a ≡ ends → follow f n k a z ≡ ran a k z
 unfolding follow
 follow-ended f zero k a z e = refl
 follow-ended f (suc n) k a z e = rw e
