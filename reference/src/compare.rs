@@ -61,9 +61,10 @@ impl Comparison {
         Ok(differences)
     }
 
-    /// Compares without a fault, then with each: true if only faults differ.
+    /// Compares without a fault, then with each that scripts show: true if only faults differ.
     pub fn try_faults(&self, out: &mut impl Write) -> io::Result<bool> {
-        let mut sightings = vec![None; Fault::ALL.len()];
+        let faults: Vec<Fault> = Fault::in_scripts().collect();
+        let mut sightings = vec![None; faults.len()];
         let mut differences = 0;
         for number in 0..self.count {
             let script = self.scripts.script(number);
@@ -74,14 +75,14 @@ impl Comparison {
                 writeln!(out, "script {number}, {difference}")?;
                 differences += 1;
             }
-            for (&fault, sighting) in Fault::ALL.iter().zip(&mut sightings) {
+            for (&fault, sighting) in faults.iter().zip(&mut sightings) {
                 if sighting.is_none() {
                     *sighting = difference(Some(fault)).map(|difference| (number, difference));
                 }
             }
         }
         self.summary(out, differences)?;
-        for (fault, sighting) in Fault::ALL.iter().zip(&sightings) {
+        for (fault, sighting) in faults.iter().zip(&sightings) {
             match sighting {
                 Some((number, difference)) => {
                     writeln!(out, "fault {}: seen in script {number}", fault.name())?;

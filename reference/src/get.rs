@@ -153,25 +153,29 @@ impl Zone {
             | Stage::StealCount { tree, hand }
             | Stage::StealReturn { tree, hand } => self.hand_in_range(tree, hand),
             Stage::WriteEntry { tree, hand } => {
-                self.hand_in_range(tree, hand) && hand >= get.size()
+                let short = self.has(Fault::ShortHandRange) && hand < get.size();
+                self.hand_in_range(tree, hand) && !short
             }
             Stage::SearchChild(search) | Stage::GiveBack(search) => self.search_in_range(search),
             Stage::SearchWord { search, word } => {
-                self.search_in_range(search) && word < CHILD_WORDS
+                let past = usize::from(self.has(Fault::WordRange));
+                self.search_in_range(search) && word < CHILD_WORDS + past
             }
             Stage::KeepStart { frame } => {
-                frame < self.frames() && !misaligned(frame, Some(get.order))
+                (frame < self.frames() || self.has(Fault::FrameRange))
+                    && !misaligned(frame, Some(get.order))
             }
         }
     }
 
     fn hand_in_range(&self, tree: usize, hand: usize) -> bool {
-        tree < self.trees.len() && hand <= self.capacity(tree)
+        tree < self.trees.len() && (hand <= self.capacity(tree) || self.has(Fault::HandRange))
     }
 
     fn search_in_range(&self, search: Search) -> bool {
+        let past = usize::from(self.has(Fault::StartRange));
         search.tree < self.trees.len()
-            && search.start < self.width(search.tree)
+            && search.start < self.width(search.tree) + past
             && search.tried < self.width(search.tree)
     }
 }
@@ -194,7 +198,7 @@ impl Zone {
     fn places(&self, get: &Get) -> usize {
         let all = self.near(get).1 + 3 * self.trees.len() + self.cpus.len() - 1;
         match self.fault {
-            Some(Fault::PlaceTwice) => all + 1,
+            Some(Fault::PlaceTwice | Fault::StealFromOwn) => all + 1,
             Some(Fault::NoRoomEarly) => all - 1,
             _ => all,
         }
@@ -224,7 +228,11 @@ impl Zone {
         if self.has(Fault::StealDescending) {
             place = self.cpus.len() - 2 - place;
         }
-        Some(Place::Cpu(other(0, place, get.cpu)))
+        Some(Place::Cpu(if self.has(Fault::StealFromOwn) {
+            place
+        } else {
+            other(0, place, get.cpu)
+        }))
     }
 
     fn near_place(&self, get: &Get, first: usize, k: usize) -> Place {
@@ -348,7 +356,7 @@ impl Zone {
     }
 
     fn fill_entry(&self, get: Get, tree: usize, hand: usize) -> Step<Operation> {
-        let Some(held) = holding(self.cpu(get.cpu)?, tree) else {
+        let Some(held) = self.holding_unless(Fault::FillOther, get.cpu, tree)? else {
             return looked(get.at(Stage::ReturnHand { tree, hand }));
         };
         let filled = Reservation {
@@ -369,18 +377,19 @@ impl Zone {
         let entry = self.tree(tree)?;
         let count = usize::from(entry.count) + hand;
         let next = get.at(Stage::LookAgain { tree });
-        self.tree_store(tree, entry.reserved, count, next)
+        let reserved = entry.reserved && !self.has(Fault::HandClearsReserved);
+        self.tree_store(tree, reserved, count, next)
     }
 
     fn look_again(&self, get: Get, tree: usize) -> Step<Operation> {
-        match holding(self.cpu(get.cpu)?, tree) {
+        match self.holding_unless(Fault::ClaimOther, get.cpu, tree)? {
             Some(held) if self.claimable(&get, held) => self.claim(get, held),
             _ => self.release_entry(get, tree),
         }
     }
 
     fn release_entry(&self, get: Get, tree: usize) -> Step<Operation> {
-        let Some(held) = holding(self.cpu(get.cpu)?, tree) else {
+        let Some(held) = self.holding_unless(Fault::ReleaseOther, get.cpu, tree)? else {
             return looked(get.at(Stage::TryPlace));
         };
         let hand = held.count;
@@ -438,7 +447,7 @@ impl Zone {
         } else {
             (hand + usize::from(entry.count), 0)
         };
-        if hand > self.capacity(tree) {
+        if hand > self.capacity(tree) && !self.has(Fault::StealUnchecked) {
             return Err(Refusal::Damaged);
         }
         let enough = hand > get.size() || (hand == get.size() && !self.has(Fault::StealStrict));
@@ -458,11 +467,13 @@ impl Zone {
     }
 
     fn write_entry(&self, get: Get, tree: usize, hand: usize) -> Step<Operation> {
-        self.cpu(get.cpu)?;
+        if !self.has(Fault::WriteUnread) {
+            self.cpu(get.cpu)?;
+        }
         let held = Reservation {
             tree,
             start: 0,
-            count: hand - get.size(),
+            count: hand.checked_sub(get.size()).ok_or(Refusal::Damaged)?,
         };
         let search = Search {
             tree,
@@ -496,6 +507,9 @@ impl Zone {
                     frame: (huge * CHILD_FRAMES) as u64,
                 }),
             ),
+            Order::Base if self.has(Fault::BitBeforeCount) => {
+                looked(get.at(Stage::SearchWord { search, word: 0 }))
+            }
             Order::Base => {
                 let count = child.count - 1;
                 stored(
@@ -523,7 +537,7 @@ impl Zone {
     }
 
     fn search_word(&self, get: Get, search: Search, word: usize) -> Step<Operation> {
-        let index = self.searched(search) * CHILD_WORDS + word;
+        let index = self.searched(search) * CHILD_WORDS + word.min(CHILD_WORDS - 1);
         let bits = self.words[index];
         match self.zero_bit(bits) {
             Some(bit) => {
@@ -551,6 +565,9 @@ impl Zone {
 
     fn give_back(&self, get: Get, search: Search) -> Step<Operation> {
         let huge = self.searched(search);
+        if self.has(Fault::GiveBackMissing) {
+            return looked(get.at(self.next_child(search)));
+        }
         let child = self.child(huge)?;
         let raised = Child {
             count: child.count + 1,
@@ -573,18 +590,54 @@ impl Zone {
         };
         let count = usize::from(entry.count) + claim;
         let next = get.at(Stage::ReleaseEntry { tree });
+        if self.has(Fault::ClaimToEntry) {
+            if let Some(held) = holding(self.cpu(get.cpu)?, tree) {
+                let count = held.count + claim;
+                let raised = Reservation { count, ..held };
+                return stored(Store::Cpu(get.cpu, raised.into()), next);
+            }
+        }
         self.tree_store(tree, entry.reserved, count, next)
     }
 
     fn keep_start(&self, get: Get, frame: u64) -> Step<Operation> {
         let tree = frame as usize / TREE_FRAMES;
         let start = frame as usize / CHILD_FRAMES % TREE_CHILDREN;
-        match holding(self.cpu(get.cpu)?, tree) {
+        if self.has(Fault::BitBeforeCount) && get.order == Order::Base {
+            return self.lower_late(frame);
+        }
+        match self.holding_unless(Fault::StartOther, get.cpu, tree)? {
             Some(held) if !self.has(Fault::StartNotKept) => {
                 let kept = Reservation { start, ..held };
                 stored(Store::Cpu(get.cpu, kept.into()), Answer::Done(frame))
             }
             _ => looked(Answer::Done(frame)),
         }
+    }
+
+    /// The child's count lowered by the last step, for a fault.
+    fn lower_late(&self, frame: u64) -> Step<Operation> {
+        let huge = frame as usize / CHILD_FRAMES;
+        let child = self.child(huge)?;
+        let count = child.count.saturating_sub(1);
+        stored(
+            Store::Child(huge, Child { count, ..child }),
+            Answer::Done(frame),
+        )
+    }
+
+    /// The own entry, if it holds the tree; with the fault, whatever it holds.
+    fn holding_unless(
+        &self,
+        fault: Fault,
+        cpu: usize,
+        tree: usize,
+    ) -> Result<Option<Reservation>, Refusal> {
+        let entry = self.cpu(cpu)?;
+        Ok(if self.has(fault) {
+            entry
+        } else {
+            holding(entry, tree)
+        })
     }
 }

@@ -1,6 +1,7 @@
 //! Create, open and close.
 
 use crate::answer::{Answer, Refusal};
+use crate::fault::Fault;
 use crate::layout::{Child, CpuEntry, Header, Tree, Word, CHILD_WORDS, MAX_HUGE_FRAMES, RUNNING};
 use crate::zone::{stored, Step, Store, Zone};
 
@@ -42,6 +43,9 @@ impl Zone {
 
     fn create_checks(&self, n: u64) -> Result<usize, Refusal> {
         if n == 0 || n > MAX_HUGE_FRAMES {
+            if self.has(Fault::Swap148) && self.header.len() != 1 {
+                return Err(Refusal::BadBuffers);
+            }
             return Err(Refusal::BadSize);
         }
         self.check_lengths(n as usize)?;
@@ -81,7 +85,7 @@ impl Zone {
                 Store::Header(Header::running(header.n as usize)),
                 Answer::UnderWay(Opening::Next {
                     store: 1,
-                    recover: header.marker == RUNNING,
+                    recover: header.marker == RUNNING || self.has(Fault::CleanRecovers),
                 }),
             )
         });
@@ -91,7 +95,7 @@ impl Zone {
     fn open_checks(&self) -> Result<Header, Refusal> {
         let header = self.checked_header()?;
         self.check_lengths(header.n as usize)?;
-        self.check_children(header.marker == RUNNING)?;
+        self.check_children(header.marker == RUNNING && !self.has(Fault::OpenOverBits))?;
         Ok(header)
     }
 
@@ -128,7 +132,8 @@ impl Zone {
             index -= self.children.len();
         }
         if index < self.trees.len() {
-            return self.tree_store(index, false, self.children_sum(index)?, next);
+            let reserved = self.trees[index].reserved && self.has(Fault::OpenKeepsReserved);
+            return self.tree_store(index, reserved, self.opened_count(index)?, next);
         }
         index -= self.trees.len();
         let next = if index + 1 == self.cpus.len() {
@@ -146,11 +151,29 @@ impl Zone {
     fn recovered(&self, huge: usize) -> Result<Child, Refusal> {
         let child = self.child(huge)?;
         let count = self.zeros(huge) as u16;
+        let count = match self.fault {
+            Some(Fault::CutPutLost) => count.min(child.count),
+            Some(Fault::OpenTrustsChildren) => child.count,
+            _ => count,
+        };
         Ok(if child.a {
             child
         } else {
             Child { count, ..child }
         })
+    }
+
+    /// A tree's count as open stores it.
+    fn opened_count(&self, tree: usize) -> Result<usize, Refusal> {
+        let sum = self.children_sum(tree)?;
+        let found = usize::from(self.trees[tree].count);
+        Ok(
+            if self.has(Fault::OpenTrustsTrees) && found <= self.capacity(tree) {
+                found
+            } else {
+                sum
+            },
+        )
     }
 
     fn children_sum(&self, tree: usize) -> Result<usize, Refusal> {
@@ -166,12 +189,12 @@ impl Zone {
 
     fn close_step(&self) -> Step<()> {
         self.check_running()?;
+        if self.has(Fault::Swap1213) && !self.counts_its_zeros() {
+            return Err(Refusal::NotSettled);
+        }
         self.check_children(true)?;
         let held = self.held_counts()?;
-        let mut settled = (0..self.children.len()).all(|huge| {
-            let child = self.children[huge];
-            child.a || usize::from(child.count) == self.zeros(huge)
-        });
+        let mut settled = self.counts_its_zeros();
         for (tree, held) in held.into_iter().enumerate() {
             settled &= held == self.children_sum(tree)?;
         }
@@ -184,6 +207,16 @@ impl Zone {
         )
     }
 
+    /// Whether every child with a clear counts its zero bits.
+    fn counts_its_zeros(&self) -> bool {
+        (0..self.children.len()).all(|huge| {
+            let child = self.children[huge];
+            child.a
+                || usize::from(child.count) == self.zeros(huge)
+                || self.has(Fault::CloseIgnoresBits)
+        })
+    }
+
     /// Each tree's count plus the counts of the CPUs that hold it.
     fn held_counts(&self) -> Result<Vec<usize>, Refusal> {
         let mut held = (0..self.trees.len())
@@ -191,7 +224,8 @@ impl Zone {
             .collect::<Result<Vec<usize>, Refusal>>()?;
         for cpu in 0..self.cpus.len() {
             if let Some(reservation) = self.cpu(cpu)? {
-                held[reservation.tree] += reservation.count;
+                let ignored = self.has(Fault::CloseIgnoresCpus);
+                held[reservation.tree] += if ignored { 0 } else { reservation.count };
             }
         }
         Ok(held)

@@ -13,13 +13,13 @@ usage:
   reference run [--fault NAME]
       reads a script from standard input and prints its output
   reference faults
-      lists the faults' names
+      lists the names of the faults that scripts show
   reference compare --program PATH [--arg ARG].. [--scripts N] [--requests M]
                     [--seed S] [--fault NAME]
       compares a program's output with the model's
   reference tried --program PATH [--arg ARG].. [--scripts N] [--requests M]
                   [--seed S]
-      compares, and then checks that every fault shows a difference
+      compares, and then checks that every such fault shows a difference
   reference script --number K [--requests M] [--seed S]
       prints a generated script
 ";
@@ -74,7 +74,7 @@ fn perform(command: &str, options: Options) -> io::Result<Option<bool>> {
             true
         }
         "faults" => {
-            for fault in Fault::ALL {
+            for fault in Fault::in_scripts() {
                 writeln!(out, "{}", fault.name())?;
             }
             true

@@ -3,7 +3,7 @@
 use crate::answer::{Answer, Refusal};
 use crate::fault::Fault;
 use crate::get::Get;
-use crate::layout::CHILD_FRAMES;
+use crate::layout::{CHILD_FRAMES, CLEAN};
 use crate::put::Put;
 use crate::zone::{Step, Zone};
 
@@ -130,11 +130,46 @@ impl Zone {
     }
 
     fn operation_step(&self, operation: Operation) -> Step<Operation> {
-        self.check_running()?;
+        self.check_step(&operation)?;
         match operation {
             Operation::Get(get) if self.get_in_range(&get) => self.get_step(get),
             Operation::Put(put) if self.put_in_range(&put) => self.put_step(put),
-            _ => Err(Refusal::BadRecord),
+            _ => Err(self.bad_record(&operation)),
+        }
+    }
+
+    /// The checks of a step before its record's, in their order but for a fault.
+    fn check_step(&self, operation: &Operation) -> Result<(), Refusal> {
+        let header = self.header.first().filter(|_| self.header.len() == 1);
+        let marker = header.map(|header| header.marker);
+        let well_formed = header.is_some_and(|header| header.well_formed());
+        match self.fault {
+            Some(Fault::Swap910) if marker == Some(CLEAN) => return Err(Refusal::Closed),
+            Some(Fault::Swap108) if well_formed => {
+                self.check_lengths(self.checked_header()?.n as usize)?
+            }
+            Some(Fault::Swap811)
+                if well_formed && marker != Some(CLEAN) && *operation == Operation::Finished =>
+            {
+                return Err(Refusal::BadRecord)
+            }
+            _ => {}
+        }
+        self.check_running()
+    }
+
+    /// The refusal of a record out of range: 11, but for a fault.
+    fn bad_record(&self, operation: &Operation) -> Refusal {
+        let cpu = match operation {
+            Operation::Finished => 0,
+            Operation::Get(get) => get.cpu,
+            Operation::Put(put) => put.cpu,
+        };
+        let damaged = cpu < self.cpus.len() && self.cpu(cpu).is_err();
+        if self.has(Fault::Swap1112) && damaged {
+            Refusal::Damaged
+        } else {
+            Refusal::BadRecord
         }
     }
 }

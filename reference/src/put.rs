@@ -84,6 +84,10 @@ impl Zone {
     }
 
     fn clear_child(&self, put: Put) -> Step<Operation> {
+        let huge = self.children[put.huge()];
+        if self.has(Fault::Swap126) && !huge.a {
+            return Err(Refusal::NotTaken);
+        }
         let child = self.child(put.huge())?;
         let let_in = self.has(Fault::HugeFromBits) && child == Child::FREE;
         if !child.a && !let_in {

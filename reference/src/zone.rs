@@ -85,6 +85,9 @@ impl Zone {
         };
         if let Some(store) = store {
             if !self.sound(&store) {
+                if self.has(Fault::RefusedStores) && matches!(store, Store::Child(..)) {
+                    self.apply(store);
+                }
                 return Answer::Refused(Refusal::Damaged);
             }
             self.apply(store);
@@ -115,10 +118,22 @@ impl Zone {
     /// The header: 8 for a wrong length, then 9 for a malformed entry.
     pub fn checked_header(&self) -> Result<Header, Refusal> {
         match self.header[..] {
-            [header] if header.well_formed() => Ok(header),
+            [header] if self.header_let_in(header) => Ok(header),
             [_] => Err(Refusal::NotAZone),
+            [header, ..] if self.has(Fault::HeaderLengthLate) && !header.well_formed() => {
+                Err(Refusal::NotAZone)
+            }
             _ => Err(Refusal::BadBuffers),
         }
+    }
+
+    fn header_let_in(&self, header: Header) -> bool {
+        let zero = if self.has(Fault::HeaderLetThrough) {
+            0
+        } else {
+            header.zero
+        };
+        Header { zero, ..header }.well_formed()
     }
 
     /// The checks of a running zone, in their order: 9, 10, 8.
@@ -160,7 +175,10 @@ impl Zone {
     }
 
     pub fn child(&self, huge: usize) -> Result<Child, Refusal> {
-        let child = self.children[huge];
+        let mut child = self.children[huge];
+        if self.has(Fault::ChildLetThrough) {
+            child.zero = 0;
+        }
         if child.well_formed() {
             Ok(child)
         } else {
@@ -170,7 +188,7 @@ impl Zone {
 
     pub fn tree(&self, tree: usize) -> Result<Tree, Refusal> {
         let entry = self.trees[tree];
-        if entry.well_formed(self.capacity(tree)) {
+        if entry.well_formed(self.capacity(tree)) || self.has(Fault::TreeLetThrough) {
             Ok(entry)
         } else {
             Err(Refusal::Damaged)
@@ -183,7 +201,7 @@ impl Zone {
     }
 
     fn reservation(&self, entry: CpuEntry) -> Result<Option<Reservation>, Refusal> {
-        if entry == CpuEntry::ABSENT {
+        if entry == CpuEntry::ABSENT || (!entry.present && self.has(Fault::AbsentLetThrough)) {
             return Ok(None);
         }
         let held = Reservation {
@@ -192,9 +210,9 @@ impl Zone {
             count: entry.count.into(),
         };
         let well_formed = entry.present
-            && entry.zero == 0
+            && (entry.zero == 0 || self.has(Fault::CpuLetThrough))
             && held.tree < self.trees.len()
-            && held.start < self.width(held.tree)
+            && (held.start < self.width(held.tree) || self.has(Fault::StartLetThrough))
             && held.count <= self.capacity(held.tree);
         if well_formed {
             Ok(Some(held))

@@ -2,7 +2,6 @@
 // A line of any other form ends the run.
 ghost use mathlib.Core.Path.{_≡_};
 ghost use Prim.Native.Nat.{_≤_};
-ghost use Rattle.rules.specs.Answers.{number, frameOf};
 ghost use Rattle.rules.specs.Create.{createZone, createStep};
 ghost use Rattle.rules.specs.Step.{step, follow, after};
 ghost use Rattle.calls.specs.Results.{zone, ranTo};
@@ -28,52 +27,6 @@ const TREE_CHILDREN: usize = 32;
 
 // More steps than any operation takes on 256 huge frames and 8 CPUs.
 const FUEL: u64 = 1000000;
-
-// ---- answers
-
-fn number_of(answer: Answer) -> u64
-    ensures { λ r. ⌜ r ≡ number answer ⌝ }
-{
-    match answer {
-        Answer::Done(_) => 0,
-        Answer::UnderWay(_) => 1,
-        Answer::NoRoom => 2,
-        Answer::BadOrder => 3,
-        Answer::BadFrame => 4,
-        Answer::Misaligned => 5,
-        Answer::NotTaken => 6,
-        Answer::BadCpu => 7,
-        Answer::BadBuffers => 8,
-        Answer::NotAZone => 9,
-        Answer::Closed => 10,
-        Answer::BadRecord => 11,
-        Answer::Damaged => 12,
-        Answer::NotSettled => 13,
-        Answer::BadSize => 14,
-    }
-}
-
-fn frame_of(answer: Answer) -> u64
-    ensures { λ r. ⌜ r ≡ frameOf answer ⌝ }
-{
-    match answer {
-        Answer::Done(frame) => frame.0,
-        Answer::UnderWay(_) => 0,
-        Answer::NoRoom => 0,
-        Answer::BadOrder => 0,
-        Answer::BadFrame => 0,
-        Answer::Misaligned => 0,
-        Answer::NotTaken => 0,
-        Answer::BadCpu => 0,
-        Answer::BadBuffers => 0,
-        Answer::NotAZone => 0,
-        Answer::Closed => 0,
-        Answer::BadRecord => 0,
-        Answer::Damaged => 0,
-        Answer::NotSettled => 0,
-        Answer::BadSize => 0,
-    }
-}
 
 // ---- output: a buffer of 65,536 bytes, written when it is full and at the end
 
@@ -150,9 +103,9 @@ fn put_zone(buffer: &mut [u8; 65536], out: Out, huge: Number, cpus: Number) -> O
 // What an operation ended with: answer number, frame, steps.
 fn put_ended(buffer: &mut [u8; 65536], out: Out, ended: Ended) -> Out {
     let answer = ended.answer;
-    let number = put_number(buffer, out, number_of(answer));
+    let number = put_number(buffer, out, records::number_of(answer));
     let first = put_byte(buffer, number, b' ');
-    let frame = put_number(buffer, first, frame_of(answer));
+    let frame = put_number(buffer, first, records::frame_of(answer));
     let second = put_byte(buffer, frame, b' ');
     let steps = put_number(buffer, second, ended.steps);
     put_byte(buffer, steps, b'\n')

@@ -253,7 +253,6 @@ fn records_out_of_range() {
         a_get(0, base, Stage::StealCount { tree: 1, hand: 513 }),
         a_get(0, base, Stage::StealReturn { tree: 1, hand: 513 }),
         a_get(0, base, Stage::WriteEntry { tree: 1, hand: 513 }),
-        a_get(0, huge, Stage::WriteEntry { tree: 1, hand: 511 }),
         a_get(0, base, Stage::SearchChild(search(2, 0, 0))),
         a_get(0, base, Stage::SearchChild(search(1, 1, 0))),
         a_get(0, base, Stage::GiveBack(search(0, 0, 32))),
@@ -374,7 +373,10 @@ fn sums_past_their_bounds() {
         tried: 0,
     };
     let (tree, hand) = (0, 1);
+    let short = Stage::WriteEntry { tree, hand: 511 };
     for operation in [
+        a_get(1, Order::Huge, short),
+        at(Stage::WriteEntry { tree, hand: 0 }),
         at(Stage::FillEntry { tree, hand }),
         at(Stage::ReturnHand { tree, hand }),
         at(Stage::ReleaseTree { tree, hand }),

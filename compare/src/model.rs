@@ -1,0 +1,169 @@
+//! The reference's side: a decoded zone, called with the library's records.
+
+use reference::answer::{Answer, Refusal};
+use reference::fault::Fault;
+use reference::layout::MAX_HUGE_FRAMES;
+use reference::packed::Tables;
+use reference::zone::Zone;
+
+use crate::call::{Call, Outcome};
+use crate::library::Packed;
+use crate::record::Record;
+use crate::translate::{
+    Shape, creating, of_creating, of_opening, of_operation, opening, operation,
+};
+
+/// The reference's zone.
+#[derive(Clone, Debug)]
+pub struct Model {
+    pub zone: Zone,
+}
+
+impl Model {
+    /// Decodes packed tables.
+    pub fn load(packed: &mut Packed, fault: Option<Fault>) -> Self {
+        let tables = Tables {
+            header: &mut packed.header,
+            words: &mut packed.words,
+            children: &mut packed.children,
+            trees: &mut packed.trees,
+            cpus: &mut packed.cpus,
+        };
+        Model {
+            zone: Zone::load(&tables, fault),
+        }
+    }
+
+    /// The shape by the tables' lengths; a call with wrong ones is refused before its record is looked at.
+    pub fn shape(&self) -> Shape {
+        Shape {
+            n: self.zone.children.len(),
+            cpus: self.zone.cpus.len(),
+        }
+    }
+
+    /// Makes a call of the reference.
+    pub fn call(&mut self, call: &Call, record: &mut [u64]) -> Outcome {
+        if !call.has_record() {
+            return self.close(*call == Call::Settled);
+        }
+        let Ok(words) = <&mut [u64; 2]>::try_from(record) else {
+            return self.bad_slice(call);
+        };
+        let (last, steps) = match call.fuel() {
+            None => (self.step(call, *words), None),
+            Some(fuel) => {
+                let (last, steps) = self.run(call, *words, fuel);
+                (last, Some(steps))
+            }
+        };
+        *words = last.words;
+        Outcome {
+            number: last.number,
+            frame: last.frame,
+            steps,
+        }
+    }
+
+    /// Single steps until the answer is not 1 or the fuel is used up. Words that are no record are as good as the finished one.
+    fn run(&mut self, call: &Call, words: [u64; 2], fuel: u64) -> (Step, u64) {
+        let single = match *call {
+            Call::CreateRun { n, .. } => Call::CreateStep { n },
+            Call::OpenRun { .. } => Call::OpenStep,
+            _ => Call::Step,
+        };
+        let given = Record::split(words).unwrap_or(Record::FINISHED);
+        let mut last = Step {
+            number: 1,
+            frame: 0,
+            words: given.join(),
+        };
+        let mut steps = 0;
+        while steps < fuel && last.number == 1 {
+            last = self.step(&single, last.words);
+            steps += 1;
+        }
+        (last, steps)
+    }
+
+    /// A call that is not a run, with a record of two words.
+    fn step(&mut self, call: &Call, words: [u64; 2]) -> Step {
+        let shape = self.shape();
+        let record = Record::split(words);
+        let zone = &mut self.zone;
+        match *call {
+            Call::Create { n } => Step::of(zone.create_first(n), shape, of_creating),
+            Call::CreateStep { n } => {
+                let given = creating(record, shape);
+                Step::of(zone.create_next(n, given), shape, of_creating)
+            }
+            Call::Open => Step::of(zone.open_first(), shape, of_opening),
+            Call::OpenStep => {
+                let given = opening(record, shape);
+                Step::of(zone.open_next(given), shape, of_opening)
+            }
+            Call::Get { cpu, order } => Step::of(zone.begin_get(cpu, order), shape, of_operation),
+            Call::Put { cpu, frame, order } => {
+                Step::of(zone.begin_put(cpu, frame, order), shape, of_operation)
+            }
+            _ => {
+                let given = operation(record, shape);
+                Step::of(zone.step(given), shape, of_operation)
+            }
+        }
+    }
+
+    /// Close; for settled, without its store.
+    fn close(&mut self, settled: bool) -> Outcome {
+        let header = self.zone.header.clone();
+        let answer = self.zone.close();
+        if settled {
+            self.zone.header = header;
+        }
+        Outcome {
+            number: answer.number().into(),
+            frame: answer.frame(),
+            steps: None,
+        }
+    }
+
+    /// A record slice of another length than 2: 8, after what comes before 8. A run makes no step then.
+    fn bad_slice(&self, call: &Call) -> Outcome {
+        let before = match *call {
+            Call::Create { n } | Call::CreateStep { n } | Call::CreateRun { n, .. } => {
+                let right = (1..=MAX_HUGE_FRAMES).contains(&n);
+                if right { Ok(()) } else { Err(Refusal::BadSize) }
+            }
+            Call::Open => self.zone.checked_header().map(|_| ()),
+            _ => self.zone.check_running(),
+        };
+        let refusal = before.err().unwrap_or(Refusal::BadBuffers);
+        Outcome {
+            number: refusal as u64,
+            frame: 0,
+            steps: call.fuel().map(|_| 0),
+        }
+    }
+}
+
+/// One answer, with the words handed back.
+#[derive(Clone, Copy, Debug)]
+struct Step {
+    number: u64,
+    frame: u64,
+    words: [u64; 2],
+}
+
+impl Step {
+    fn of<R>(answer: Answer<R>, shape: Shape, record: fn(&R, Shape) -> Record) -> Self {
+        let words = match &answer {
+            Answer::UnderWay(next) => record(next, shape).join(),
+            _ => Record::FINISHED.join(),
+        };
+        Step {
+            number: answer.number().into(),
+            frame: answer.frame(),
+            words,
+        }
+    }
+}

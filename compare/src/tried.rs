@@ -1,0 +1,33 @@
+//! The seeded faults of the reference, each of which the comparison must see.
+
+use std::io::{self, Write};
+
+use reference::fault::Fault;
+
+use crate::player::Stop;
+use crate::scenes;
+
+/// Tries every fault that single calls show; true if all are seen.
+pub fn all(out: &mut impl Write, seed: u64, calls: u64) -> io::Result<bool> {
+    let faults: Vec<Fault> = Fault::in_calls().collect();
+    let mut seen = 0;
+    for &fault in &faults {
+        let mut player = scenes::player(seed, Some(fault), calls);
+        match scenes::play(&mut player, seed) {
+            Stop::Enough => writeln!(out, "fault {}: not seen", fault.name())?,
+            Stop::Differs(difference) => {
+                seen += 1;
+                writeln!(
+                    out,
+                    "fault {}: seen by call {}, {}: {}",
+                    fault.name(),
+                    difference.number,
+                    difference.call,
+                    difference.unequal.what
+                )?;
+            }
+        }
+    }
+    writeln!(out, "{seen} faults of {} seen", faults.len())?;
+    Ok(seen == faults.len())
+}

@@ -1,0 +1,53 @@
+use Rattle.capi.proofs.Calls.{made-not, made-so}
+use borrow.Author.Needs.{needs}
+use Rattle.capi.proofs.lovarntek_open.Statement.{statement}
+use Rattle.capi.proofs.lovarntek_open.Tie as tie
+use Rattle.capi.proofs.hand_back.Reads as hand-back-reads
+use Rattle.capi.proofs.no_record.Reads as no-record-reads
+use Rattle.capi.proofs.told.Reads as told-reads
+use Rattle.opening.proofs.open.Reads as open-reads
+
+no-record-requires : tie.Need-no-record-requires
+no-record-requires c κs = search needs
+
+told-requires : tie.Need-told-requires
+told-requires c κs = search needs
+
+same-length : tie.Need-same-length
+same-length c = search needs
+
+returns : tie.Need-returns
+returns c = made-not _ _ _ _ (c .before .before .before .if1 .taken) (c .before .no-record .ensures) (c .told .ensures)
+
+open-requires : tie.Need-open-requires
+open-requires c κs = search needs
+
+hand-back-requires : tie.Need-hand-back-requires
+hand-back-requires c κs = search needs
+
+told-requires-2 : tie.Need-told-requires-2
+told-requires-2 c κs = search needs
+
+same-length-2 : tie.Need-same-length-2
+same-length-2 c = search needs
+
+same-length-3 : tie.Need-same-length-3
+same-length-3 c = search needs
+
+returns-2 : tie.Need-returns-2
+returns-2 c = made-so _ _ _ _ (c .before .before .before .before .before .before .before .before .before .if1 .left) (c .before .before .before .before .before .before .before .«open» .ensures) (c .before .before .before .hand-back .ensures) (c .told2 .ensures)
+
+pub lovarntek-open-spec : {M : Type 1} → statement M
+lovarntek-open-spec =
+    tie.close
+    (tie.spec
+    no-record-requires
+    told-requires
+    same-length
+    returns
+    open-requires
+    hand-back-requires
+    told-requires-2
+    same-length-2
+    same-length-3
+    returns-2)

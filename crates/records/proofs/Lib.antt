@@ -1,0 +1,4 @@
+pub mod Picks
+pub mod Packed
+pub mod Inverse
+pub mod Returns

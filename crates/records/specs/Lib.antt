@@ -1,0 +1,5 @@
+pub mod Types
+pub mod Layout
+pub mod Encoding
+pub mod Decoding
+pub mod Inverse

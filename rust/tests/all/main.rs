@@ -1,0 +1,9 @@
+//! The wrapper's tests, against what document 01 says.
+
+mod answers;
+mod common;
+mod cuts;
+mod extremes;
+mod lengths;
+mod records;
+mod sessions;
