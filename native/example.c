@@ -5,7 +5,7 @@
 
 #include "lovarntek.h"
 
-enum { HUGE_FRAMES = 65, CPUS = 2, BASE = 0, HUGE = 9 };
+enum { HUGE_FRAMES = 65, CPUS = 2, BASE = 0, RUN_OF_8 = 3, HUGE = 9 };
 
 static uint64_t header[LOVARNTEK_HEADER], words[8 * HUGE_FRAMES], cpus[CPUS];
 static uint16_t children[HUGE_FRAMES], trees[(HUGE_FRAMES + 31) / 32];
@@ -56,6 +56,8 @@ int main(void) {
     by_runs("get huge, CPU 0", lovarntek_get(ZONE, RECORD, 0, HUGE));
     by_steps("put 0, CPU 1", lovarntek_put(ZONE, RECORD, 1, 0, BASE));
     by_steps("put 0 again", lovarntek_put(ZONE, RECORD, 1, 0, BASE));
+    by_runs("get run of 8, CPU 0", lovarntek_get(ZONE, RECORD, 0, RUN_OF_8));
+    by_steps("put run 1024", lovarntek_put(ZONE, RECORD, 0, 1024, RUN_OF_8));
     by_steps("get, no such CPU", lovarntek_get(ZONE, RECORD, CPUS, BASE));
     memset(trees, 0xAB, sizeof trees);
     memset(cpus, 0xCD, sizeof cpus);

@@ -3,6 +3,7 @@
 use std::io::{self, BufWriter, Write};
 use std::process::ExitCode;
 
+use compare::pair::Side;
 use compare::player::Stop;
 use compare::replay::Replay;
 use compare::{lengths, scenes, tried};
@@ -17,6 +18,8 @@ usage:
   compare replay --cpus C --steps K [--seed S] [--n N] [--fault NAME]
       plays one schedule of C CPUs (1 to 64) on N huge frames (1 to 65,536),
       K single steps (at most 1,000,000,000)
+each of them with --side reference
+      lets the reference without a fault answer in the library's place
 ";
 
 #[derive(Default)]
@@ -27,6 +30,7 @@ struct Options {
     steps: Option<u64>,
     n: Option<u64>,
     fault: Option<Fault>,
+    side: Side,
 }
 
 fn main() -> ExitCode {
@@ -70,6 +74,10 @@ fn parse(args: &[String]) -> Result<Options, String> {
                 options.fault = Some(fault.ok_or(format!("no fault {value:?}"))?);
                 continue;
             }
+            "--side" => {
+                options.side = side_of(value)?;
+                continue;
+            }
             _ => return Err(format!("no option {name:?}")),
         };
         let parsed = value.parse().ok();
@@ -78,13 +86,24 @@ fn parse(args: &[String]) -> Result<Options, String> {
     Ok(options)
 }
 
+fn side_of(value: &str) -> Result<Side, String> {
+    match value {
+        "library" => Ok(Side::Library),
+        "reference" => Ok(Side::Reference),
+        _ => Err(format!("no side {value:?}")),
+    }
+}
+
 /// Performs a command: whether it went well, or what is wrong with it.
 fn perform(command: &str, options: &Options) -> io::Result<Result<bool, String>> {
     let mut out = BufWriter::new(io::stdout().lock());
     let seed = options.seed.unwrap_or(1);
     let well = match command {
         "calls" => calls(&mut out, seed, options)?,
-        "tried" => tried::all(&mut out, seed, options.calls.unwrap_or(300_000))?,
+        "tried" => {
+            let calls = options.calls.unwrap_or(300_000);
+            tried::all(&mut out, seed, calls, options.side)?
+        }
         "replay" => match replay_of(options, seed) {
             Ok(replay) => play(&mut out, replay)?,
             Err(message) => return Ok(Err(message)),
@@ -100,6 +119,7 @@ fn calls(out: &mut impl Write, seed: u64, options: &Options) -> io::Result<bool>
     writeln!(out, "seed {seed}")?;
     let calls = options.calls.unwrap_or(1_200_000);
     let mut player = scenes::player(seed, options.fault, calls);
+    player.pair.side = options.side;
     let stop = scenes::play(&mut player, seed);
     player.cover.print(out)?;
     match lengths::first_difference() {
@@ -134,6 +154,7 @@ fn replay_of(options: &Options, seed: u64) -> Result<Replay, String> {
         steps: options.steps.ok_or("--steps is missing")?,
         n: options.n,
         fault: options.fault,
+        side: options.side,
     };
     if replay.in_range() {
         Ok(replay)

@@ -22,16 +22,17 @@ pub struct Model {
 impl Model {
     /// Decodes packed tables.
     pub fn load(packed: &mut Packed, fault: Option<Fault>) -> Self {
-        let tables = Tables {
-            header: &mut packed.header,
-            words: &mut packed.words,
-            children: &mut packed.children,
-            trees: &mut packed.trees,
-            cpus: &mut packed.cpus,
-        };
         Model {
-            zone: Zone::load(&tables, fault),
+            zone: Zone::load(&lent(packed), fault),
         }
+    }
+
+    /// Makes a call of the reference on packed tables, in the library's place.
+    pub fn call_on(packed: &mut Packed, call: &Call, record: &mut [u64]) -> Outcome {
+        let mut model = Model::load(packed, None);
+        let outcome = model.call(call, record);
+        model.zone.store(&mut lent(packed));
+        outcome
     }
 
     /// The shape by the tables' lengths; a call with wrong ones is refused before its record is looked at.
@@ -143,6 +144,17 @@ impl Model {
             frame: 0,
             steps: call.fuel().map(|_| 0),
         }
+    }
+}
+
+/// Packed tables, lent to the reference.
+fn lent(packed: &mut Packed) -> Tables<'_> {
+    Tables {
+        header: &mut packed.header,
+        words: &mut packed.words,
+        children: &mut packed.children,
+        trees: &mut packed.trees,
+        cpus: &mut packed.cpus,
     }
 }
 

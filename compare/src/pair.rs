@@ -7,11 +7,21 @@ use crate::difference::{self, Unequal};
 use crate::library::Packed;
 use crate::model::Model;
 
+/// Who answers on the library's side.
+#[derive(Clone, Copy, Debug, Default, PartialEq, Eq)]
+pub enum Side {
+    #[default]
+    Library,
+    /// The reference without a fault, to try the comparison itself.
+    Reference,
+}
+
 /// The library's tables and the reference's zone.
 #[derive(Clone, Debug)]
 pub struct Pair {
     pub library: Packed,
     pub model: Model,
+    pub side: Side,
 }
 
 /// What both sides answered.
@@ -22,9 +32,13 @@ pub struct Answers {
 }
 
 impl Pair {
-    pub fn new(mut library: Packed, fault: Option<Fault>) -> Self {
+    pub fn new(mut library: Packed, fault: Option<Fault>, side: Side) -> Self {
         let model = Model::load(&mut library, fault);
-        Pair { library, model }
+        Pair {
+            library,
+            model,
+            side,
+        }
     }
 
     /// Changes the tables of both sides.
@@ -39,7 +53,10 @@ impl Pair {
         let other = &mut other[..record.len()];
         other.copy_from_slice(record);
         let answers = Answers {
-            library: self.library.call(call, record),
+            library: match self.side {
+                Side::Library => self.library.call(call, record),
+                Side::Reference => Model::call_on(&mut self.library, call, record),
+            },
             reference: self.model.call(call, other),
         };
         let unequal = difference::answers(&answers.library, &answers.reference)

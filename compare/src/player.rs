@@ -8,7 +8,7 @@ use crate::call::{Call, Outcome};
 use crate::cover::{Cover, Seen};
 use crate::difference::Difference;
 use crate::library::Packed;
-use crate::pair::Pair;
+use crate::pair::{Pair, Side};
 use crate::record::Record;
 use crate::translate::Shape;
 
@@ -78,7 +78,7 @@ impl Player {
             cpus: vec![],
         };
         Player {
-            pair: Pair::new(none, fault),
+            pair: Pair::new(none, fault, Side::default()),
             rng,
             cover: Cover::new(),
             made: 0,
@@ -88,7 +88,8 @@ impl Player {
 
     /// Goes on with other tables.
     pub fn load(&mut self, tables: Packed) {
-        self.pair = Pair::new(tables, self.pair.model.zone.fault);
+        let Pair { model, side, .. } = &self.pair;
+        self.pair = Pair::new(tables, model.zone.fault, *side);
     }
 
     /// Writes a running header on both sides, which a forged create may have changed.
@@ -128,7 +129,7 @@ impl Player {
         }
         self.cover.see(&Seen {
             call,
-            slice: before.len(),
+            words: &before,
             record,
             came_from: slot.before,
             tree,

@@ -68,6 +68,8 @@ pub struct Record {
 pub struct Form {
     pub cpu: bool,
     pub order: bool,
+    /// Whether the order is a run's, 0 to 6.
+    pub run: bool,
     pub kinds: RangeInclusive<u8>,
     pub tree: bool,
     pub from: bool,
@@ -79,13 +81,24 @@ pub struct Form {
 }
 
 impl Form {
+    /// Whether the stage may have an order: 0 to 6 or 9; 0 where it has none.
+    pub fn has_order(&self, order: u8) -> bool {
+        match order {
+            0 => true,
+            1..=6 => self.order,
+            9 => self.order && !self.run,
+            _ => false,
+        }
+    }
+
     /// The form of a stage; none for a number that is no stage.
     pub fn of(stage: u8) -> Option<Form> {
         use stage::*;
         let known = ALL.contains(&stage);
         known.then(|| Form {
             cpu: stage <= TO_TREE || matches!(stage, CREATE_CPUS | OPEN_CPUS),
-            order: stage <= TO_TREE && !matches!(stage, WORD | GIVE_BACK | NO_ROOM | RAISE),
+            order: stage <= TO_TREE && stage != NO_ROOM,
+            run: matches!(stage, WORD | GIVE_BACK | RAISE),
             kinds: kinds(stage),
             tree: matches!(stage, TAKE_COUNT..=LOOK_AGAIN | CREATE_TREES | OPEN_TREES),
             from: stage == STEAL,
@@ -184,16 +197,16 @@ impl Record {
         [u64::from_be_bytes(first), second]
     }
 
-    /// Whether the stage exists, every field that it does not use is 0, and every number but a base frame's is below 2^32.
+    /// Whether the stage exists, every field that it does not use is 0, and every number but a run's first frame is below 2^32.
     fn well_formed(&self) -> bool {
         let Some(form) = Form::of(self.stage) else {
             return *self == Record::FINISHED;
         };
         let unless = |used: bool, value: u64| used || value == 0;
-        let base_frame = self.stage <= stage::TO_TREE && self.order == 0;
-        (base_frame || self.number < 1 << 32)
+        let first_frame = self.stage <= stage::TO_TREE && self.order != 9;
+        (first_frame || self.number < 1 << 32)
             && form.kinds.contains(&self.kind)
-            && (self.order == 0 || (form.order && self.order == 9))
+            && form.has_order(self.order)
             && unless(form.cpu, self.cpu.into())
             && unless(form.tree || self.kind != 0, self.tree.into())
             && unless(self.kind == kind::NEAR, self.base.into())
@@ -206,6 +219,14 @@ impl Record {
 
     /// Frames of a block of the record's order.
     pub fn size(&self) -> usize {
-        if self.order == 9 { 512 } else { 1 }
+        1 << self.order
+    }
+
+    /// The huge frame of the record's block.
+    pub fn huge(&self) -> usize {
+        match self.order {
+            9 => self.number as usize,
+            _ => self.number as usize / 512,
+        }
     }
 }

@@ -3,6 +3,7 @@
 use reference::fault::Fault;
 use reference::rng::Rng;
 
+use crate::pair::Side;
 use crate::player::{Player, Stop};
 use crate::scenes::schedule::Schedule;
 use crate::states;
@@ -21,6 +22,7 @@ pub struct Replay {
     pub n: Option<u64>,
     /// A fault of the reference.
     pub fault: Option<Fault>,
+    pub side: Side,
 }
 
 impl Replay {
@@ -40,6 +42,7 @@ impl Replay {
             cpus: self.cpus as usize,
         };
         let mut player = Player::new(rng, self.fault, self.steps);
+        player.pair.side = self.side;
         player.load(states::fresh(shape));
         let mut schedule = Schedule::new(&mut player, false);
         loop {

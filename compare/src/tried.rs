@@ -4,15 +4,17 @@ use std::io::{self, Write};
 
 use reference::fault::Fault;
 
+use crate::pair::Side;
 use crate::player::Stop;
 use crate::scenes;
 
 /// Tries every fault that single calls show; true if all are seen.
-pub fn all(out: &mut impl Write, seed: u64, calls: u64) -> io::Result<bool> {
+pub fn all(out: &mut impl Write, seed: u64, calls: u64, side: Side) -> io::Result<bool> {
     let faults: Vec<Fault> = Fault::in_calls().collect();
     let mut seen = 0;
     for &fault in &faults {
         let mut player = scenes::player(seed, Some(fault), calls);
+        player.pair.side = side;
         match scenes::play(&mut player, seed) {
             Stop::Enough => writeln!(out, "fault {}: not seen", fault.name())?,
             Stop::Differs(difference) => {

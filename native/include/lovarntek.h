@@ -26,10 +26,10 @@ enum lovarntek_number {
     LOVARNTEK_DONE = 0,         /* with the block's first frame; create, open, close: frame 0 */
     LOVARNTEK_UNDER_WAY = 1,    /* begun, or the step made; the record goes on */
     LOVARNTEK_NO_ROOM = 2,      /* the last place of a get has been tried */
-    LOVARNTEK_BAD_ORDER = 3,    /* order not 0 or 9 */
+    LOVARNTEK_BAD_ORDER = 3,    /* order not 0 to 6 or 9 */
     LOVARNTEK_BAD_FRAME = 4,    /* frame at or above 512 n */
-    LOVARNTEK_MISALIGNED = 5,   /* order 9, frame not a multiple of 512 */
-    LOVARNTEK_NOT_TAKEN = 6,    /* the frame or huge frame to put back is free */
+    LOVARNTEK_MISALIGNED = 5,   /* frame not a multiple of the block's frames: 2 to 64 for orders 1 to 6, 512 for order 9 */
+    LOVARNTEK_NOT_TAKEN = 6,    /* put: a frame of the run is free, or the huge frame is not taken as one */
     LOVARNTEK_BAD_CPU = 7,      /* CPU at or above the CPU table's length */
     LOVARNTEK_BAD_BUFFERS = 8,  /* a table's or the record's length is wrong */
     LOVARNTEK_NOT_A_ZONE = 9,   /* the header is malformed */
@@ -112,7 +112,8 @@ lovarntek_ran lovarntek_open_run(LOVARNTEK_LENT_HEADER, LOVARNTEK_UPPER_STORED, 
 lovarntek_answer lovarntek_close(LOVARNTEK_STORED_HEADER, LOVARNTEK_LOOKED_AT);
 lovarntek_answer lovarntek_settled(LOVARNTEK_LENT_HEADER, LOVARNTEK_LOOKED_AT);
 
-/* ---- gets and puts: begun, one step, up to `fuel` steps. Order 0 is a base frame, order 9 a huge frame. */
+/* ---- gets and puts: begun, one step, up to `fuel` steps. Order 0 is a base frame; orders 1 to 6 are runs of 2, 4, 8, 16, 32 and 64 base frames, naturally
+ * aligned; order 9 is a huge frame. Part of a run may be put by itself, as a block of a smaller order. */
 
 lovarntek_answer lovarntek_get(LOVARNTEK_LENT_HEADER, LOVARNTEK_LOOKED_AT, LOVARNTEK_RECORD_LENT, uint64_t cpu, uint64_t order);
 lovarntek_answer lovarntek_put(LOVARNTEK_LENT_HEADER, LOVARNTEK_LOOKED_AT, LOVARNTEK_RECORD_LENT, uint64_t cpu, uint64_t frame, uint64_t order);

@@ -3,9 +3,10 @@
 use crate::answer::{Answer, Refusal};
 use crate::fault::Fault;
 use crate::layout::{
-    Child, CpuEntry, Reservation, Word, CHILD_FRAMES, CHILD_WORDS, TREE_CHILDREN, TREE_FRAMES,
+    Child, CpuEntry, Reservation, Run, CHILD_FRAMES, CHILD_WORDS, TREE_CHILDREN, TREE_FRAMES,
+    WORD_FRAMES,
 };
-use crate::operation::{misaligned, Operation, Order};
+use crate::operation::{Operation, Order};
 use crate::zone::{looked, stored, Step, Store, Zone};
 
 /// Trees of an aligned block.
@@ -156,14 +157,15 @@ impl Zone {
                 let short = self.has(Fault::ShortHandRange) && hand < get.size();
                 self.hand_in_range(tree, hand) && !short
             }
-            Stage::SearchChild(search) | Stage::GiveBack(search) => self.search_in_range(search),
+            Stage::SearchChild(search) => self.search_in_range(search),
             Stage::SearchWord { search, word } => {
                 let past = usize::from(self.has(Fault::WordRange));
-                self.search_in_range(search) && word < CHILD_WORDS + past
+                self.words_in_range(get, search) && word < CHILD_WORDS + past
             }
+            Stage::GiveBack(search) => self.words_in_range(get, search),
             Stage::KeepStart { frame } => {
                 (frame < self.frames() || self.has(Fault::FrameRange))
-                    && !misaligned(frame, Some(get.order))
+                    && !get.order.misaligned(frame)
             }
         }
     }
@@ -177,6 +179,11 @@ impl Zone {
         search.tree < self.trees.len()
             && search.start < self.width(search.tree) + past
             && search.tried < self.width(search.tree)
+    }
+
+    /// Words are searched only for what lies in one.
+    fn words_in_range(&self, get: &Get, search: Search) -> bool {
+        self.search_in_range(search) && !get.order.is_huge()
     }
 }
 
@@ -331,6 +338,15 @@ impl Zone {
         held.count > get.size() || (held.count == get.size() && !self.has(Fault::ClaimStrict))
     }
 
+    /// What a claim lowers the own entry by: s, but for a fault.
+    fn claimed(&self, get: &Get) -> usize {
+        if self.has(Fault::TreeClaimOne) && !get.order.is_huge() {
+            1
+        } else {
+            get.size()
+        }
+    }
+
     /// Lowers the own entry by s; the search starts from its start child.
     fn claim(&self, get: Get, held: Reservation) -> Step<Operation> {
         let search = Search {
@@ -339,7 +355,7 @@ impl Zone {
             tried: 0,
         };
         let lowered = Reservation {
-            count: held.count - get.size(),
+            count: held.count - self.claimed(&get),
             ..held
         };
         stored(
@@ -473,7 +489,9 @@ impl Zone {
         let held = Reservation {
             tree,
             start: 0,
-            count: hand.checked_sub(get.size()).ok_or(Refusal::Damaged)?,
+            count: hand
+                .checked_sub(self.claimed(&get))
+                .ok_or(Refusal::Damaged)?,
         };
         let search = Search {
             tree,
@@ -500,23 +518,22 @@ impl Zone {
         if !fits {
             return looked(get.at(self.next_child(search)));
         }
-        match get.order {
-            Order::Huge => stored(
-                Store::Child(huge, Child::TAKEN),
-                get.at(Stage::KeepStart {
-                    frame: (huge * CHILD_FRAMES) as u64,
-                }),
-            ),
-            Order::Base if self.has(Fault::BitBeforeCount) => {
-                looked(get.at(Stage::SearchWord { search, word: 0 }))
-            }
-            Order::Base => {
-                let count = child.count - 1;
-                stored(
-                    Store::Child(huge, Child { count, ..child }),
-                    get.at(Stage::SearchWord { search, word: 0 }),
-                )
-            }
+        if get.order.is_huge() {
+            let frame = (huge * CHILD_FRAMES) as u64;
+            let next = get.at(Stage::KeepStart { frame });
+            return stored(Store::Child(huge, Child::TAKEN), next);
+        }
+        let next = get.at(Stage::SearchWord { search, word: 0 });
+        let count = child.count - self.lowered(&get) as u16;
+        stored(Store::Child(huge, Child { count, ..child }), next)
+    }
+
+    /// What a search lowers a child's count by: s, but for a fault.
+    fn lowered(&self, get: &Get) -> usize {
+        match self.fault {
+            Some(Fault::BitBeforeCount) => 0,
+            Some(Fault::ChildClaimOne) => 1,
+            _ => get.size(),
         }
     }
 
@@ -538,12 +555,13 @@ impl Zone {
 
     fn search_word(&self, get: Get, search: Search, word: usize) -> Step<Operation> {
         let index = self.searched(search) * CHILD_WORDS + word.min(CHILD_WORDS - 1);
-        let bits = self.words[index];
-        match self.zero_bit(bits) {
+        let size = get.size();
+        match self.fitting(index, size) {
             Some(bit) => {
-                let frame = (index * 64 + bit) as u64;
+                let frame = (index * WORD_FRAMES + bit) as u64;
+                let taken = self.words[index].set(Run { bit, size });
                 stored(
-                    Store::Word(index, bits.set(bit)),
+                    Store::Word(index, taken),
                     get.at(Stage::KeepStart { frame }),
                 )
             }
@@ -555,12 +573,34 @@ impl Zone {
         }
     }
 
-    fn zero_bit(&self, word: Word) -> Option<usize> {
-        if self.has(Fault::HighestBit) {
-            word.highest_zero()
-        } else {
-            word.lowest_zero()
+    /// The first bit of a word's lowest fitting run.
+    fn fitting(&self, index: usize, size: usize) -> Option<usize> {
+        let word = self.words[index];
+        let mut runs = word.free_runs(size);
+        match self.fault {
+            Some(Fault::HighestBit) => runs.next_back(),
+            Some(Fault::SecondRun) if size > 1 => {
+                let lowest = runs.next();
+                runs.next().or(lowest)
+            }
+            Some(Fault::RunUnaligned) => {
+                (0..=WORD_FRAMES - size).find(|&bit| word.free(Run { bit, size }))
+            }
+            Some(Fault::RunAcross) => runs.next().or_else(|| self.across(index, size)),
+            _ => runs.next(),
         }
+    }
+
+    /// The first bit of a run half in a word and half in the child's next one, for a fault.
+    fn across(&self, index: usize, size: usize) -> Option<usize> {
+        let size = size / 2;
+        let bit = WORD_FRAMES - size;
+        let next = index + 1;
+        let free = size > 0
+            && !next.is_multiple_of(CHILD_WORDS)
+            && self.words[index].free(Run { bit, size })
+            && self.words[next].free(Run { bit: 0, size });
+        free.then_some(bit)
     }
 
     fn give_back(&self, get: Get, search: Search) -> Step<Operation> {
@@ -568,9 +608,14 @@ impl Zone {
         if self.has(Fault::GiveBackMissing) {
             return looked(get.at(self.next_child(search)));
         }
+        let size = if self.has(Fault::GiveBackOne) {
+            1
+        } else {
+            get.size()
+        };
         let child = self.child(huge)?;
         let raised = Child {
-            count: child.count + 1,
+            count: child.count + size as u16,
             ..child
         };
         stored(Store::Child(huge, raised), get.at(self.next_child(search)))
@@ -603,8 +648,8 @@ impl Zone {
     fn keep_start(&self, get: Get, frame: u64) -> Step<Operation> {
         let tree = frame as usize / TREE_FRAMES;
         let start = frame as usize / CHILD_FRAMES % TREE_CHILDREN;
-        if self.has(Fault::BitBeforeCount) && get.order == Order::Base {
-            return self.lower_late(frame);
+        if self.has(Fault::BitBeforeCount) && !get.order.is_huge() {
+            return self.lower_late(&get, frame);
         }
         match self.holding_unless(Fault::StartOther, get.cpu, tree)? {
             Some(held) if !self.has(Fault::StartNotKept) => {
@@ -616,10 +661,10 @@ impl Zone {
     }
 
     /// The child's count lowered by the last step, for a fault.
-    fn lower_late(&self, frame: u64) -> Step<Operation> {
+    fn lower_late(&self, get: &Get, frame: u64) -> Step<Operation> {
         let huge = frame as usize / CHILD_FRAMES;
         let child = self.child(huge)?;
-        let count = child.count.saturating_sub(1);
+        let count = child.count.saturating_sub(get.size() as u16);
         stored(
             Store::Child(huge, Child { count, ..child }),
             Answer::Done(frame),

@@ -5,6 +5,8 @@
 
 pub const MAX_HUGE_FRAMES: u64 = 65_536;
 pub const MAX_CPUS: usize = 64;
+/// Base frames of a word.
+pub const WORD_FRAMES: usize = 64;
 /// Base frames of a huge frame.
 pub const CHILD_FRAMES: usize = 512;
 /// Words of a huge frame.
@@ -110,24 +112,48 @@ impl Word {
         (self.0 >> bit) & 1 == 1
     }
 
-    pub fn set(self, bit: usize) -> Self {
-        Word(self.0 | (1 << bit))
-    }
-
-    pub fn clear(self, bit: usize) -> Self {
-        Word(self.0 & !(1 << bit))
-    }
-
     pub fn zeros(self) -> usize {
         (0..64).filter(|&bit| !self.taken(bit)).count()
     }
 
-    pub fn lowest_zero(self) -> Option<usize> {
-        (0..64).find(|&bit| !self.taken(bit))
+    /// Whether every bit of a run is clear.
+    pub fn free(self, run: Run) -> bool {
+        self.0 & run.bits() == 0
     }
 
-    pub fn highest_zero(self) -> Option<usize> {
-        (0..64).rev().find(|&bit| !self.taken(bit))
+    /// Whether every bit of a run is set.
+    pub fn full(self, run: Run) -> bool {
+        self.0 & run.bits() == run.bits()
+    }
+
+    pub fn set(self, run: Run) -> Self {
+        Word(self.0 | run.bits())
+    }
+
+    pub fn clear(self, run: Run) -> Self {
+        Word(self.0 & !run.bits())
+    }
+
+    /// The first bits of the aligned runs of a size that are free, ascending.
+    pub fn free_runs(self, size: usize) -> impl DoubleEndedIterator<Item = usize> {
+        let starts = (0..WORD_FRAMES).step_by(size);
+        starts.filter(move |&bit| self.free(Run { bit, size }))
+    }
+}
+
+/// Neighbouring bits of one word.
+#[derive(Clone, Copy, Debug, PartialEq, Eq)]
+pub struct Run {
+    /// The first one.
+    pub bit: usize,
+    /// How many there are, 1 to 64.
+    pub size: usize,
+}
+
+impl Run {
+    /// The run's bits, as far as the word goes.
+    fn bits(self) -> u64 {
+        (u64::MAX >> (WORD_FRAMES - self.size)) << self.bit
     }
 }
 

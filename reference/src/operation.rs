@@ -3,40 +3,42 @@
 use crate::answer::{Answer, Refusal};
 use crate::fault::Fault;
 use crate::get::Get;
-use crate::layout::{CHILD_FRAMES, CLEAN};
+use crate::layout::CLEAN;
 use crate::put::Put;
 use crate::zone::{Step, Zone};
 
+/// An order that blocks have: 0 to 6, runs of one word, or 9.
 #[derive(Clone, Copy, Debug, PartialEq, Eq)]
-pub enum Order {
-    /// Order 0, one base frame.
-    Base,
-    /// Order 9, one huge frame.
-    Huge,
-}
+pub struct Order(u8);
 
 impl Order {
+    /// Order 0, one base frame.
+    pub const BASE: Order = Order(0);
+    /// Order 6, a whole word.
+    pub const LONGEST_RUN: Order = Order(6);
+    /// Order 9, one huge frame.
+    pub const HUGE: Order = Order(9);
+
     pub fn from_number(number: u64) -> Option<Self> {
-        match number {
-            0 => Some(Order::Base),
-            9 => Some(Order::Huge),
-            _ => None,
-        }
+        matches!(number, 0..=6 | 9).then_some(Order(number as u8))
     }
 
     pub fn number(self) -> u64 {
-        match self {
-            Order::Base => 0,
-            Order::Huge => 9,
-        }
+        self.0.into()
     }
 
     /// Base frames of a block.
     pub fn size(self) -> usize {
-        match self {
-            Order::Base => 1,
-            Order::Huge => CHILD_FRAMES,
-        }
+        1 << self.0
+    }
+
+    pub fn is_huge(self) -> bool {
+        self == Order::HUGE
+    }
+
+    /// Whether a block that begins at the frame would not be naturally aligned.
+    pub fn misaligned(self, frame: u64) -> bool {
+        !frame.is_multiple_of(self.size() as u64)
     }
 }
 
@@ -73,7 +75,7 @@ impl Zone {
 
     fn check_get(&self, cpu: u64, order: u64) -> Result<Order, Refusal> {
         self.check_running()?;
-        let known = Order::from_number(order);
+        let known = self.known_order(order);
         let mut checks = [
             (self.bad_cpu(cpu), Refusal::BadCpu),
             (known.is_none(), Refusal::BadOrder),
@@ -94,12 +96,12 @@ impl Zone {
 
     fn check_put(&self, cpu: u64, frame: u64, order: u64) -> Result<Order, Refusal> {
         self.check_running()?;
-        let known = Order::from_number(order);
+        let known = self.known_order(order);
         let mut checks = [
             (self.bad_cpu(cpu), Refusal::BadCpu),
             (known.is_none(), Refusal::BadOrder),
             (self.bad_frame(frame), Refusal::BadFrame),
-            (misaligned(frame, known), Refusal::Misaligned),
+            (self.misaligned(frame, known), Refusal::Misaligned),
         ];
         match self.fault {
             Some(Fault::Swap73) => checks.swap(0, 1),
@@ -111,6 +113,22 @@ impl Zone {
         }
         first_refusal(&checks)?;
         known.ok_or(Refusal::BadOrder)
+    }
+
+    /// The order of a number, if blocks have it.
+    fn known_order(&self, number: u64) -> Option<Order> {
+        match number {
+            7 | 8 if self.has(Fault::OrdersBetween) => Some(Order::LONGEST_RUN),
+            _ => Order::from_number(number),
+        }
+    }
+
+    /// Whether a put is refused for its frame's alignment.
+    fn misaligned(&self, frame: u64, order: Option<Order>) -> bool {
+        order.is_some_and(|order| {
+            let let_in = self.has(Fault::RunMisaligned) && !order.is_huge();
+            order.misaligned(frame) && !let_in
+        })
     }
 
     fn bad_cpu(&self, cpu: u64) -> bool {
@@ -172,9 +190,4 @@ impl Zone {
             Refusal::BadRecord
         }
     }
-}
-
-/// Whether a huge block would start inside a huge frame.
-pub fn misaligned(frame: u64, order: Option<Order>) -> bool {
-    order == Some(Order::Huge) && !frame.is_multiple_of(CHILD_FRAMES as u64)
 }

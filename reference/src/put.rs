@@ -2,8 +2,8 @@
 
 use crate::answer::{Answer, Refusal};
 use crate::fault::Fault;
-use crate::layout::{Child, Reservation, CHILD_FRAMES, TREE_FRAMES};
-use crate::operation::{misaligned, Operation, Order};
+use crate::layout::{Child, Reservation, Run, CHILD_FRAMES, TREE_FRAMES, WORD_FRAMES};
+use crate::operation::{Operation, Order};
 use crate::zone::{looked, stored, Step, Store, Zone};
 
 /// A put under way.
@@ -20,7 +20,7 @@ pub struct Put {
 pub enum PutStage {
     /// The clearing store.
     Clear,
-    /// Order 0: the child's count rises.
+    /// Orders 0 to 6: the child's count rises.
     RaiseChild,
     /// The own entry's count rises, if it holds the tree.
     OwnEntry,
@@ -55,32 +55,37 @@ impl Zone {
     pub fn put_in_range(&self, put: &Put) -> bool {
         put.cpu < self.cpus.len()
             && put.frame < self.frames()
-            && !misaligned(put.frame, Some(put.order))
-            && !(put.order == Order::Huge && put.stage == PutStage::RaiseChild)
+            && !put.order.misaligned(put.frame)
+            && !(put.order.is_huge() && put.stage == PutStage::RaiseChild)
     }
 
     pub fn put_step(&self, put: Put) -> Step<Operation> {
         match put.stage {
-            PutStage::Clear => match put.order {
-                Order::Base => self.clear_bit(put),
-                Order::Huge => self.clear_child(put),
-            },
+            PutStage::Clear if put.order.is_huge() => self.clear_child(put),
+            PutStage::Clear => self.clear_run(put),
             PutStage::RaiseChild => self.raise_child(put),
             PutStage::OwnEntry => self.raise_own_entry(put),
             PutStage::Tree => self.raise_tree(put),
         }
     }
 
-    fn clear_bit(&self, put: Put) -> Step<Operation> {
-        let (index, bit) = (put.frame as usize / 64, put.frame as usize % 64);
+    fn clear_run(&self, put: Put) -> Step<Operation> {
+        let (frame, size) = (put.frame as usize, put.order.size());
+        let (index, bit) = (frame / WORD_FRAMES, frame % WORD_FRAMES);
+        let run = Run { bit, size };
         let word = self.words[index];
-        if !word.taken(bit) {
+        let let_in = self.has(Fault::NotTakenByAll) && !word.free(run);
+        if !word.full(run) && !let_in {
             return Err(Refusal::NotTaken);
         }
-        stored(
-            Store::Word(index, word.clear(bit)),
-            put.at(PutStage::RaiseChild),
-        )
+        let cleared = match size {
+            2.. if self.has(Fault::BitLeft) => word.clear(Run {
+                size: size - 1,
+                ..run
+            }),
+            _ => word.clear(run),
+        };
+        stored(Store::Word(index, cleared), put.at(PutStage::RaiseChild))
     }
 
     fn clear_child(&self, put: Put) -> Step<Operation> {
@@ -101,8 +106,13 @@ impl Zone {
 
     fn raise_child(&self, put: Put) -> Step<Operation> {
         let child = self.child(put.huge())?;
+        let size = if self.has(Fault::RaiseOne) {
+            1
+        } else {
+            put.order.size()
+        };
         let raised = Child {
-            count: child.count + 1,
+            count: child.count + size as u16,
             ..child
         };
         stored(Store::Child(put.huge(), raised), put.at(PutStage::OwnEntry))

@@ -17,6 +17,10 @@ const CPU_COUNTS: u64 = 8;
 const AIMED_EVERY: u64 = 4;
 /// Requests that filling a child frame by frame needs, and a few more.
 const LONG: usize = 620;
+/// The orders that blocks have.
+const ORDERS: [u64; 8] = [0, 1, 2, 3, 4, 5, 6, 9];
+/// The longest run's order.
+const LONGEST: u64 = 6;
 
 /// What a run's scripts are made from.
 #[derive(Clone, Copy, Debug)]
@@ -37,11 +41,15 @@ enum Aim {
     Moves,
     /// A zone filled frame by frame.
     Fill,
+    /// A zone filled by runs, of which parts are put.
+    Fragments,
+    /// Runs of all sizes and single frames.
+    Runs,
     /// A line of another form.
     Form,
 }
 
-const AIMS: [Aim; 8] = [
+const AIMS: [Aim; 10] = [
     Aim::Edge(2_047),
     Aim::Edge(2_048),
     Aim::Edge(14_336),
@@ -50,6 +58,8 @@ const AIMS: [Aim; 8] = [
     Aim::Moves,
     Aim::Fill,
     Aim::Form,
+    Aim::Fragments,
+    Aim::Runs,
 ];
 
 impl Scripts {
@@ -64,7 +74,7 @@ impl Scripts {
             let nearly_full = rng.percent(40);
             let mut maker = Maker::new(n, cpus, rng, self.requests);
             if nearly_full {
-                maker.fill_huge();
+                maker.fill(9);
             }
             maker.mixes();
             maker.text
@@ -81,7 +91,7 @@ impl Scripts {
     fn aimed(&self, aim: Aim, mut rng: Rng) -> Vec<u8> {
         let (n, cpus) = aimed_size(aim, &mut rng);
         let needed = match aim {
-            Aim::Edge(_) | Aim::Fill => LONG,
+            Aim::Edge(_) | Aim::Fill | Aim::Fragments => LONG,
             _ => 0,
         };
         let mut maker = Maker::new(n, cpus, rng, self.requests.max(needed));
@@ -90,6 +100,8 @@ impl Scripts {
             Aim::Steal => maker.crowd(),
             Aim::Moves => maker.crumble(),
             Aim::Fill => maker.fill_base(),
+            Aim::Fragments => maker.fragment(),
+            Aim::Runs => maker.runs(),
             Aim::Form => return maker.other_form(),
         }
         maker.mixes();
@@ -106,7 +118,8 @@ fn aimed_size(aim: Aim, rng: &mut Rng) -> (u64, u64) {
         }
         Aim::Steal => (rng.between(1, 96), rng.between(3, CPU_COUNTS)),
         Aim::Moves => (rng.between(65, SIZES), rng.between(1, CPU_COUNTS)),
-        Aim::Fill => (rng.between(1, 3), rng.between(1, CPU_COUNTS)),
+        Aim::Fill | Aim::Fragments => (rng.between(1, 3), rng.between(1, CPU_COUNTS)),
+        Aim::Runs => (rng.between(1, 40), rng.between(1, CPU_COUNTS)),
         Aim::Form => (rng.between(1, SIZES), rng.between(1, CPU_COUNTS)),
     }
 }
@@ -118,11 +131,52 @@ struct Block {
     order: u64,
 }
 
+impl Block {
+    fn size(self) -> u64 {
+        1 << self.order
+    }
+
+    fn covers(self, other: Block) -> bool {
+        self.frame <= other.frame && other.frame + other.size() <= self.frame + self.size()
+    }
+
+    fn halves(self) -> [Block; 2] {
+        let order = self.order - 1;
+        [0, 1].map(|half| Block {
+            frame: self.frame + (half << order),
+            order,
+        })
+    }
+
+    /// The largest aligned parts that stay when a smaller part is put.
+    fn without(self, part: Block) -> Vec<Block> {
+        let mut kept = Vec::new();
+        let mut rest = self;
+        while rest.order > part.order {
+            let [low, high] = rest.halves();
+            let (inside, outside) = if low.covers(part) {
+                (low, high)
+            } else {
+                (high, low)
+            };
+            kept.push(outside);
+            rest = inside;
+        }
+        kept
+    }
+}
+
 /// How a stretch of requests is mixed, in percent.
 #[derive(Clone, Copy, Debug)]
 struct Mix {
     gets: u64,
     huge: u64,
+    /// Runs among the gets that are not huge.
+    runs: u64,
+    /// The largest order of a run, not in percent.
+    longest: u64,
+    /// Puts of a part of a run.
+    parts: u64,
     wrong: u64,
     /// Puts of the newest block.
     newest: u64,
@@ -174,11 +228,18 @@ impl Maker {
             Request::Get { order, .. } => self.held.push(Block { frame, order }),
             Request::Put { order, .. } => {
                 let block = Block { frame, order };
-                if let Some(index) = self.held.iter().rposition(|&held| held == block) {
-                    self.held.swap_remove(index);
-                }
+                self.give(block);
                 self.given.push(block);
             }
+        }
+    }
+
+    /// Takes a put block out of those held, or out of the one that it is a part of.
+    fn give(&mut self, block: Block) {
+        let overlaps = |held: &Block| held.covers(block) || block.covers(*held);
+        while let Some(index) = self.held.iter().rposition(overlaps) {
+            let held = self.held.swap_remove(index);
+            self.held.extend(held.without(block));
         }
     }
 
@@ -235,9 +296,11 @@ impl Maker {
         self.rng.below(self.cpus)
     }
 
-    fn any_order(&mut self, huge: u64) -> u64 {
-        if self.rng.percent(huge) {
+    fn any_order(&mut self, mix: Mix) -> u64 {
+        if self.rng.percent(mix.huge) {
             9
+        } else if self.rng.percent(mix.runs) {
+            self.rng.between(1, mix.longest)
         } else {
             0
         }
@@ -259,6 +322,9 @@ impl Maker {
         Mix {
             gets: self.rng.pick(&[15, 35, 48, 52, 65, 85]),
             huge: self.rng.pick(&[0, 5, 30, 50, 80, 100]),
+            runs: self.rng.pick(&[0, 30, 60, 95]),
+            longest: self.rng.between(1, LONGEST),
+            parts: self.rng.pick(&[0, 20, 70]),
             wrong: self.rng.pick(&[0, 4, 12]),
             newest: self.rng.pick(&[0, 50, 95]),
             one_cpu: self.rng.pick(&[0, 60, 95]),
@@ -276,10 +342,15 @@ impl Maker {
             if self.rng.percent(mix.wrong) {
                 self.wrong();
             } else if self.held.is_empty() || self.rng.percent(mix.gets) {
-                let order = self.any_order(mix.huge);
+                let order = self.any_order(mix);
                 self.get(cpu, order);
             } else {
                 let block = self.any_held(mix.newest);
+                let block = if self.rng.percent(mix.parts) {
+                    self.part_of(block)
+                } else {
+                    block
+                };
                 self.put(cpu, block);
             }
         }
@@ -294,13 +365,27 @@ impl Maker {
         }
     }
 
+    /// A smaller part of a run; a block of another order as it is.
+    fn part_of(&mut self, block: Block) -> Block {
+        if !(1..=LONGEST).contains(&block.order) {
+            return block;
+        }
+        let order = self.rng.below(block.order);
+        let part = self.rng.below(block.size() >> order);
+        Block {
+            frame: block.frame + (part << order),
+            order,
+        }
+    }
+
     /// A request that most likely is refused, for any set of reasons.
     fn wrong(&mut self) {
         let (cpu, order) = (self.cpu_or_far(), self.order_or_odd());
-        match self.rng.below(10) {
+        match self.rng.below(12) {
             0 | 1 => self.get(cpu, order),
             2 => self.again(cpu),
-            3 => self.other_order(cpu),
+            3 | 4 => self.other_order(cpu),
+            5 => self.misaligned(cpu),
             _ => {
                 let frame = self.frame_or_far();
                 self.raw_put(cpu, frame, order)
@@ -318,18 +403,25 @@ impl Maker {
         self.put(cpu, block)
     }
 
-    /// Puts a held block by the other order.
+    /// Puts a block of any order that has a frame of a held one.
     fn other_order(&mut self, cpu: u64) -> Option<Reply> {
         if self.held.is_empty() {
             return None;
         }
-        match self.any_held(50) {
-            Block { frame, order: 9 } => {
-                let inside = frame + self.rng.below(CHILD);
-                self.raw_put(cpu, inside, 0)
-            }
-            Block { frame, .. } => self.raw_put(cpu, frame / CHILD * CHILD, 9),
+        let held = self.any_held(50);
+        let inside = held.frame + self.rng.below(held.size());
+        let order = self.rng.pick(&ORDERS);
+        self.raw_put(cpu, inside >> order << order, order)
+    }
+
+    /// Puts a held block from a frame inside it on.
+    fn misaligned(&mut self, cpu: u64) -> Option<Reply> {
+        if self.held.is_empty() {
+            return None;
         }
+        let held = self.any_held(50);
+        let inside = held.frame + self.rng.below(held.size());
+        self.raw_put(cpu, inside, held.order)
     }
 
     fn cpu_or_far(&mut self) -> u64 {
@@ -343,10 +435,10 @@ impl Maker {
 
     fn order_or_odd(&mut self) -> u64 {
         if self.rng.percent(70) {
-            self.any_order(60)
+            self.rng.pick(&[0, 0, 1, 2, 3, 4, 5, 6, 9, 9, 9])
         } else {
             self.rng
-                .pick(&[1, 2, 8, 10, 64, 256, u64::MAX - 6, u64::MAX])
+                .pick(&[7, 7, 8, 8, 10, 64, 256, u64::MAX - 6, u64::MAX])
         }
     }
 
@@ -366,11 +458,11 @@ impl Maker {
 
 // Aimed beginnings of scripts.
 impl Maker {
-    /// Takes huge frames until there is no room.
-    fn fill_huge(&mut self) {
+    /// Takes blocks of one order until there is no room.
+    fn fill(&mut self, order: u64) {
         loop {
             let cpu = self.any_cpu();
-            match self.get(cpu, 9) {
+            match self.get(cpu, order) {
                 Some(Reply { number: 0, .. }) => {}
                 _ => break,
             }
@@ -397,7 +489,7 @@ impl Maker {
         let wanted = count - (CHILD - base);
         self.put_from_first_tree(9, wanted / CHILD);
         self.put_from_first_tree(0, wanted % CHILD);
-        let order = self.any_order(50);
+        let order = self.rng.pick(&[0, 0, 3, 6, 9, 9, 9]);
         self.get(1, order);
     }
 
@@ -415,6 +507,9 @@ impl Maker {
         let mix = Mix {
             gets: 60,
             huge: self.rng.pick(&[10, 50, 90]),
+            runs: self.rng.pick(&[0, 50]),
+            longest: LONGEST,
+            parts: 20,
             wrong: 0,
             newest: 20,
             one_cpu: 0,
@@ -429,7 +524,8 @@ impl Maker {
         let rounds = self.rng.between(40, 120);
         for _ in 0..rounds {
             let cpu = self.any_cpu();
-            self.get(cpu, 0);
+            let order = self.rng.pick(&[0, 0, 0, 1, 6]);
+            self.get(cpu, order);
             for _ in 0..self.rng.between(1, 4) {
                 self.get(cpu, 9);
             }
@@ -454,6 +550,49 @@ impl Maker {
             };
             self.get(cpu, 0);
         }
+    }
+}
+
+// Runs.
+impl Maker {
+    /// Fills a small zone by runs of one order and puts parts of them, so that counts suffice where no run fits.
+    fn fragment(&mut self) {
+        let least = if self.n == 1 { 1 } else { 3 };
+        let order = self.rng.between(least, LONGEST);
+        self.fill(order);
+        let mut blocks = self.held.clone();
+        let whole = self.rng.pick(&[0, 0, 10]);
+        while let Some(block) = blocks.pop() {
+            let part = if self.rng.percent(whole) {
+                block
+            } else {
+                self.part_of(block)
+            };
+            let cpu = self.any_cpu();
+            self.put(cpu, part);
+        }
+        for _ in 0..8 {
+            let cpu = self.any_cpu();
+            let order = self.rng.between(0, order);
+            self.get(cpu, order);
+        }
+    }
+
+    /// Runs of all sizes and single frames, more of them taken than put.
+    fn runs(&mut self) {
+        let mix = Mix {
+            gets: 60,
+            huge: self.rng.pick(&[0, 5]),
+            runs: self.rng.pick(&[50, 80, 95]),
+            longest: LONGEST,
+            parts: self.rng.pick(&[20, 50, 90]),
+            wrong: 5,
+            newest: 10,
+            one_cpu: self.rng.pick(&[0, 90]),
+            cpu: 0,
+        };
+        let stretch = self.rng.between(200, 400);
+        self.stretch(mix, stretch);
     }
 }
 

@@ -21,13 +21,13 @@ pub enum Answer {
 pub enum Refusal {
     /// 2: the last place of a get has been tried.
     NoRoom,
-    /// 3: the order is not 0 or 9.
+    /// 3: the order is not 0 to 6 or 9.
     BadOrder,
     /// 4: the frame is at or above 512 n.
     BadFrame,
-    /// 5: order 9, and the frame is not a multiple of 512.
+    /// 5: the frame is not a multiple of the block's frames.
     Misaligned,
-    /// 6: the frame or huge frame to put back is free.
+    /// 6: a frame of the run to put back is free, or the huge frame is not taken as one.
     NotTaken,
     /// 7: the CPU is at or above the CPU table's length.
     BadCpu,

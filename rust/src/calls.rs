@@ -1,6 +1,6 @@
 //! The calls of the C interface, one to one, over slices of any length: not null and not overlapping by their types.
 //!
-//! Numbers are bare here: an answer's stands in the header `lovarntek.h`, an order is 0 or 9. A record is a slice too: one of another length than 2 is
+//! Numbers are bare here: an answer's stands in the header `lovarntek.h`, an order is 0 to 6 or 9. A record is a slice too: one of another length than 2 is
 //! answered 8 where a table's wrong length would be, and left as it is.
 
 /// An answer's number, and its frame (0 unless the number is 0).

@@ -72,7 +72,7 @@ impl<U64: AsMut<[u64]>, U16: AsMut<[u16]>> Zone<U64, U16> {
         self.end(record)
     }
 
-    /// Gives the block that begins at `frame` back.
+    /// Gives the block that begins at `frame` back. Part of a run may be given back by itself, as a block of a smaller order.
     pub fn put(&mut self, cpu: u64, frame: u64, order: Order) -> Result<(), Refusal> {
         let record = self.begin_put(cpu, frame, order)?;
         self.end(record).map(|_| ())

@@ -70,7 +70,7 @@ pub fn wrong_lengths(seen: &Seen) -> Vec<&'static str> {
     }
     check(!tables.cpus.is_empty(), "cpus none");
     check(tables.cpus.len() <= 64, "cpus too many");
-    check(seen.slice == 2 || !seen.call.has_record(), "record");
+    check(seen.words.len() == 2 || !seen.call.has_record(), "record");
     wrong
 }
 
@@ -149,8 +149,10 @@ fn bad_record(seen: &Seen) -> Option<String> {
 fn put_range(record: &Record, shape: Shape) -> &'static str {
     if usize::from(record.cpu) >= shape.cpus {
         "cpu"
-    } else {
+    } else if record.huge() >= shape.n {
         "frame"
+    } else {
+        "misaligned"
     }
 }
 
@@ -176,6 +178,8 @@ fn get_range(record: &Record, shape: Shape) -> &'static str {
         "word"
     } else if usize::from(record.hand) > 512 * width {
         "hand"
+    } else if record.stage == stage::LAST && record.huge() < shape.n {
+        "misaligned"
     } else {
         "frame"
     }

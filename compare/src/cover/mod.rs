@@ -3,6 +3,7 @@
 mod answers;
 mod names;
 mod order;
+mod runs;
 mod steps;
 
 use std::collections::HashMap;
@@ -19,8 +20,8 @@ pub const LEAST: u64 = 100;
 #[derive(Debug)]
 pub struct Seen<'a> {
     pub call: Call,
-    /// The record slice's length.
-    pub slice: usize,
+    /// The record slice before the call.
+    pub words: &'a [u64],
     /// The record before the call, if the slice held one.
     pub record: Option<Record>,
     /// The stage of the record before that.
@@ -72,7 +73,12 @@ impl Cover {
 
     /// Counts the cases of a call.
     pub fn see(&mut self, seen: &Seen) {
-        let cases = [answers::cases(seen), order::cases(seen), steps::cases(seen)];
+        let cases = [
+            answers::cases(seen),
+            order::cases(seen),
+            runs::cases(seen),
+            steps::cases(seen),
+        ];
         for name in cases.iter().flatten() {
             self.note(name);
         }

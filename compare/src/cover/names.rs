@@ -1,5 +1,7 @@
 //! The table of cases.
 
+use crate::cover::runs;
+
 const TABLES: &str = "header, words, children, trees, cpus none, cpus too many";
 
 /// The numbers that each call may answer.
@@ -19,7 +21,7 @@ const ANSWERS: [(&str, &str); 12] = [
 ];
 
 /// What each kind of step, entry and scene may come to.
-const CASES: [(&str, &str); 72] = [
+const CASES: [(&str, &str); 77] = [
     ("own", "absent, claimed, short, 12 malformed"),
     ("take count", "taken, 12 malformed"),
     ("fill entry", "held, gone, 12 malformed, 12 sum"),
@@ -105,9 +107,9 @@ const CASES: [(&str, &str); 72] = [
     ),
     (
         "11 by a get",
-        "cpu, tree, near tree, stolen cpu, child, word, hand, frame",
+        "cpu, tree, near tree, stolen cpu, child, word, hand, frame, misaligned",
     ),
-    ("11 by a put", "cpu, frame"),
+    ("11 by a put", "cpu, frame, misaligned"),
     ("11 by a create", "words, children, trees, cpus"),
     ("11 by an open", "children, trees, cpus"),
     ("11 at step", "finished, no record, another operation"),
@@ -133,7 +135,18 @@ const CASES: [(&str, &str); 72] = [
         "hand returned, claim returned to the tree, release gone, start child not kept",
     ),
     ("damage", "under a hand"),
-    ("between", "huge get passes a claimed child"),
+    (
+        "between",
+        "huge get passes a claimed child, one run for two gets",
+    ),
+    ("get 3", "order 7, order 8, order 10, order above 10"),
+    ("put 3", "order 7, order 8, order 10, order above 10"),
+    ("put 5", "order 9"),
+    (
+        "no record",
+        "order 7, order 8, order above 9, order 9 at a word's stage, order where there is none",
+    ),
+    ("parts", "put by halves"),
 ];
 
 /// Every case's name.
@@ -154,5 +167,6 @@ pub fn all() -> Vec<String> {
             names.push(format!("{what}: {outcome}"));
         }
     }
+    names.extend(runs::names());
     names
 }

@@ -1,6 +1,7 @@
 //! Cases of a refusal that came before another one which applied too.
 
 use reference::layout::{Child, Header};
+use reference::operation::Order;
 
 use crate::call::Call;
 use crate::cover::Seen;
@@ -53,7 +54,7 @@ fn bad_cpu(seen: &Seen) -> bool {
 }
 
 fn bad_order(seen: &Seen) -> bool {
-    matches!(seen.call, Call::Get { order, .. } | Call::Put { order, .. } if order != 0 && order != 9)
+    matches!(seen.call, Call::Get { order, .. } | Call::Put { order, .. } if Order::from_number(order).is_none())
 }
 
 fn bad_frame(seen: &Seen) -> bool {
@@ -62,7 +63,10 @@ fn bad_frame(seen: &Seen) -> bool {
 }
 
 fn misaligned(seen: &Seen) -> bool {
-    matches!(seen.call, Call::Put { frame, order: 9, .. } if frame % 512 != 0)
+    let Call::Put { frame, order, .. } = seen.call else {
+        return false;
+    };
+    Order::from_number(order).is_some_and(|order| order.misaligned(frame))
 }
 
 /// A header slice of another length whose first entry is malformed, at a call that looks at it.

@@ -4,7 +4,7 @@ use reference::layout::{Child, CpuEntry};
 use reference::zone::Zone;
 
 use crate::call::Call;
-use crate::cover::Seen;
+use crate::cover::{Seen, runs};
 use crate::record::{Record, kind, stage};
 
 const PLACES: [&str; 7] = ["", "own", "near", "partial", "free", "any", "stolen"];
@@ -25,6 +25,7 @@ pub fn cases(seen: &Seen) -> Vec<String> {
         _ => outcome(seen, &record, &next),
     };
     cases.push(format!("{}: {outcome}", name(&record)));
+    cases.extend(runs::by_order(seen, &record, name(&record), outcome));
     if at_place(record.stage) {
         let place = PLACES[usize::from(record.kind)];
         cases.push(format!("{} at: {place}", name_of(record.stage)));
@@ -153,12 +154,8 @@ fn searched(next: &Record) -> &'static str {
 /// Whether the last step found its entry; it still holds the tree then.
 fn kept(seen: &Seen, record: &Record) -> &'static str {
     let zone = &seen.pair.model.zone;
-    let huge = match record.order {
-        9 => record.number as usize,
-        _ => record.number as usize / 512,
-    };
     match zone.cpu(record.cpu.into()) {
-        Ok(Some(held)) if held.tree == huge / 32 => "kept",
+        Ok(Some(held)) if held.tree == record.huge() / 32 => "kept",
         _ => "not kept",
     }
 }
@@ -207,17 +204,10 @@ fn damaged(seen: &Seen, record: &Record, cases: &mut Vec<String>) -> &'static st
             let huge = 32 * usize::from(record.tree) + usize::from(record.child);
             read_child(zone, huge, cases)
         }
-        stage::CLEAR => read_child(zone, record.number as usize, cases),
-        stage::RAISE => read_child(zone, record.number as usize / 512, cases),
+        stage::CLEAR | stage::RAISE => read_child(zone, record.huge(), cases),
         stage::OPEN_CHILDREN => read_child(zone, record.number as usize, cases),
         stage::OPEN_TREES => "12 malformed",
-        stage::TO_TREE => {
-            let huge = match record.order {
-                9 => record.number as usize,
-                _ => record.number as usize / 512,
-            };
-            read_tree(zone, huge / 32)
-        }
+        stage::TO_TREE => read_tree(zone, record.huge() / 32),
         _ => read_tree(zone, record.tree.into()),
     }
 }

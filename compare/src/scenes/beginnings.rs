@@ -26,29 +26,21 @@ pub fn numbers(player: &mut Player) -> Played {
             1 << 32,
             any,
         ]);
-        let order = rng.pick(&[
-            0,
-            0,
-            0,
-            9,
-            9,
-            9,
-            1,
-            8,
-            10,
-            1 << 32,
-            (1 << 32) + 9,
-            any,
-            u64::MAX,
-        ]);
+        let run = states::run_order(rng);
+        let any_order = states::order(rng);
+        let known = rng.pick(&[run, any_order]);
+        let unknown = rng.pick(&[7, 8, 10, 1 << 32, (1 << 32) + 9, any, u64::MAX]);
+        let order = rng.pick(&[known, known, unknown]);
         let base = rng.below(frames);
-        let huge = base / 512 * 512;
+        let aligned = base >> known << known;
+        let inside = aligned + (1 << known) / 2;
         let frame = rng.pick(&[
             0,
             base,
             base,
-            huge,
-            huge,
+            aligned,
+            aligned,
+            inside,
             frames - 1,
             frames,
             frames + 1,

@@ -19,7 +19,7 @@ fn any_call(player: &mut Player, shape: Shape) -> Call {
     };
     let fuel = rng.pick(&[0, 1, 2, 50]);
     let cpu = rng.below(shape.cpus as u64 + 1);
-    let order = rng.pick(&[0, 9, 9, 1]);
+    let order = rng.pick(&[0, 9, 9, 1, 6, 7]);
     let frame = rng.below(512 * shape.n as u64 + 2);
     rng.pick(&[
         Call::Create { n },

@@ -1,6 +1,6 @@
 //! Interleavings that chance seldom makes.
 
-use crate::call::Call;
+use crate::call::{Call, Outcome};
 use crate::player::{Played, Player, Slot};
 use crate::record::{Record, kind, stage};
 use crate::states;
@@ -16,6 +16,8 @@ pub fn all(player: &mut Player) -> Played {
         put_between(player)?;
         huge_between(player)?;
         cut_inside(player)?;
+        one_run_for_two(player)?;
+        by_halves(player)?;
     }
     Ok(())
 }
@@ -81,7 +83,7 @@ fn stolen_at(player: &mut Player, order: u8, wanted: u8, case: &str) -> Played {
 /// CPU 0 has the tree's count in hand; the hand is returned.
 fn stolen_hand(player: &mut Player) -> Played {
     held(player, 0);
-    let order = player.rng.pick(&[0, 9]);
+    let order = states::order(&mut player.rng) as u8;
     stolen_at(
         player,
         order,
@@ -93,7 +95,7 @@ fn stolen_hand(player: &mut Player) -> Played {
 /// CPU 0 has searched; what would go to its entry does not.
 fn stolen_search(player: &mut Player) -> Played {
     held(player, 1_000);
-    let order = player.rng.pick(&[0, 9]);
+    let order = states::order(&mut player.rng) as u8;
     let (wanted, case) = player.rng.pick(&[
         (stage::LAST, "after a steal: start child not kept"),
         (stage::FAIL, "after a steal: claim returned to the tree"),
@@ -129,10 +131,11 @@ fn damaged_hand(player: &mut Player) -> Played {
     Ok(())
 }
 
-/// A get of order 9 comes to a child whose count was lowered and whose bit is not set yet.
+/// A get of order 9 comes to a child whose count was lowered and whose bits are not set yet.
 fn huge_between(player: &mut Player) -> Played {
     held(player, 1_000);
-    let mut base = got_to(player, 0, stage::WORD)?;
+    let order = states::run_order(&mut player.rng) as u8;
+    let mut base = got_to(player, order, stage::WORD)?;
     let mut huge = Slot::of(Record {
         stage: stage::CHILD,
         cpu: 1,
@@ -151,17 +154,22 @@ fn huge_between(player: &mut Player) -> Played {
     Ok(())
 }
 
-/// A get or a put of one frame, cut at each of its stores to the lower level, and recovered.
+/// A get or a put of a run, cut at each of its stores to the lower level, and recovered.
 fn cut_inside(player: &mut Player) -> Played {
     held(player, 1_000);
+    let order = states::run_order(&mut player.rng);
     let (wanted, free, case) = player.rng.pick(&[
         (stage::WORD, 512, "cut: after a get's lowered count"),
-        (stage::LAST, 511, "cut: after a get's set bit"),
+        (
+            stage::LAST,
+            512 - (1 << order),
+            "cut: after a get's set bit",
+        ),
         (stage::RAISE, 512, "cut: after a put's clearing store"),
     ]);
-    let mut slot = got_to(player, 0, wanted)?;
+    let mut slot = got_to(player, order as u8, wanted)?;
     if wanted == stage::RAISE {
-        let (cpu, frame, order) = (1, 0, 0);
+        let (cpu, frame) = (1, 0);
         player.call(Call::Put { cpu, frame, order }, &mut slot)?;
         player.call(Call::Step, &mut slot)?;
     }
@@ -186,12 +194,13 @@ fn full_words(player: &mut Player) -> Played {
     let shape = held(player, 1_000);
     let last = player.rng.percent(50);
     let huge = if last { shape.n - 1 } else { 0 };
+    let order = states::run_order(&mut player.rng);
     player.pair.edit(|tables| {
         tables.cpus[0] = states::cpu_entry(0, huge, 600);
         tables.words[8 * huge..][..8].fill(u64::MAX);
-        tables.children[huge] = 1;
+        tables.children[huge] = 1 << order;
     });
-    let mut slot = got_to(player, 0, stage::GIVE_BACK)?;
+    let mut slot = got_to(player, order as u8, stage::GIVE_BACK)?;
     match player.rng.below(6) {
         0 => player.pair.edit(|tables| tables.children[huge] = 0x8000),
         1 => player.pair.edit(|tables| tables.children[huge] = 512),
@@ -205,15 +214,16 @@ fn full_words(player: &mut Player) -> Played {
 /// A put's steps fall between those of a get of the same CPU's tree.
 fn put_between(player: &mut Player) -> Played {
     held(player, 1_000);
+    let order = states::run_order(&mut player.rng);
     let mut first = Slot::new();
-    player.call(Call::Get { cpu: 0, order: 0 }, &mut first)?;
-    let got = player.finish(&mut first)?;
+    player.call(Call::Get { cpu: 0, order }, &mut first)?;
+    let frame = player.finish(&mut first)?.frame;
     let mut put = Slot::new();
     player.call(
         Call::Put {
             cpu: 1,
-            frame: got.frame,
-            order: 0,
+            frame,
+            order,
         },
         &mut put,
     )?;
@@ -226,6 +236,111 @@ fn put_between(player: &mut Player) -> Played {
             &mut get
         };
         player.call(Call::Step, slot)?;
+    }
+    Ok(())
+}
+
+/// Two gets claim on a child that has room for both and one fitting run.
+fn one_run_for_two(player: &mut Player) -> Played {
+    held(player, 200);
+    let order = player.rng.between(1, 6);
+    let run = u64::MAX >> (64 - (1 << order));
+    player.pair.edit(|tables| {
+        tables.words[..8].fill(0x5555_5555_5555_5555);
+        tables.words[player.rng.below(8) as usize] &= !run;
+        let free = states::zeros(&tables.words, 0) as u16;
+        tables.children[0] = free;
+        tables.trees[0] -= 512 - free;
+    });
+    let mut first = got_to(player, order as u8, stage::WORD)?;
+    let mut second = got_to(player, order as u8, stage::WORD)?;
+    player.finish(&mut first)?;
+    while !second.idle() && !second.stands_at(stage::GIVE_BACK) {
+        player.call(Call::Step, &mut second)?;
+    }
+    if second.stands_at(stage::GIVE_BACK) {
+        player.cover.note("between: one run for two gets");
+    }
+    while !second.idle() {
+        player.call(Call::Step, &mut second)?;
+    }
+    Ok(())
+}
+
+/// Begins an operation and runs it to its end.
+fn ended(player: &mut Player, call: Call) -> Played<Outcome> {
+    let mut slot = Slot::new();
+    let begun = player.call(call, &mut slot)?;
+    if begun.number != 1 {
+        return Ok(begun);
+    }
+    player.call(Call::Run { fuel: u64::MAX }, &mut slot)
+}
+
+/// A run goes back by halves; the whole is refused in between.
+fn by_halves(player: &mut Player) -> Played {
+    held(player, 1_000);
+    let cpu = player.rng.below(2);
+    let order = player.rng.between(1, 6);
+    let frame = ended(player, Call::Get { cpu: 0, order })?.frame;
+    let half = 1 << (order - 1);
+    let mut numbers = [0; 3];
+    for (number, (frame, order)) in numbers.iter_mut().zip([
+        (frame + half, order - 1),
+        (frame, order),
+        (frame, order - 1),
+    ]) {
+        *number = ended(player, Call::Put { cpu, frame, order })?.number;
+    }
+    if numbers == [0, 6, 0] {
+        player.cover.note("parts: put by halves");
+    }
+    Ok(())
+}
+
+/// Gets and puts alone, of whole blocks, leave a child whose count is enough for a run while none fits.
+pub fn fragmented(player: &mut Player) -> Played {
+    let shape = Shape {
+        n: player.rng.between(1, 2) as usize,
+        cpus: player.rng.between(1, 3) as usize,
+    };
+    player.load(states::fresh(shape));
+    let cpu = player.rng.below(shape.cpus as u64);
+    let order = player.rng.between(1, 6);
+    let halves = first_child(player, cpu, order - 1)?;
+    put_one_of_pairs(player, shape, &halves, order - 1)?;
+    let mut slot = Slot::new();
+    player.call(Call::Get { cpu, order }, &mut slot)?;
+    while !slot.idle() {
+        let gives_back = slot.stands_at(stage::GIVE_BACK);
+        let outcome = player.call(Call::Step, &mut slot)?;
+        if gives_back && outcome.number == 1 {
+            let case = format!("fragmented: order {order} gives its count back");
+            player.cover.note(&case);
+        }
+    }
+    player.call(Call::Settled, &mut Slot::new()).map(|_| ())
+}
+
+/// Takes the first child: most words by runs of 64 frames, the last one or two by blocks of an order, whose frames it gives.
+fn first_child(player: &mut Player, cpu: u64, order: u64) -> Played<Vec<u64>> {
+    let words = if order == 5 { 2 } else { 1 };
+    for _ in words..8 {
+        ended(player, Call::Get { cpu, order: 6 })?;
+    }
+    let blocks = (64 * words) >> order;
+    (0..blocks)
+        .map(|_| ended(player, Call::Get { cpu, order }).map(|got| got.frame))
+        .collect()
+}
+
+/// Puts one block of each of two or more pairs.
+fn put_one_of_pairs(player: &mut Player, shape: Shape, blocks: &[u64], order: u64) -> Played {
+    let count = player.rng.between(2, blocks.len() as u64 / 2);
+    for pair in blocks.chunks(2).take(count as usize) {
+        let frame = player.rng.pick(pair);
+        let cpu = player.rng.below(shape.cpus as u64);
+        ended(player, Call::Put { cpu, frame, order })?;
     }
     Ok(())
 }

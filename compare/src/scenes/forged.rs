@@ -92,6 +92,56 @@ pub fn damaged(player: &mut Player) -> Played {
     Ok(())
 }
 
+/// The stages of gets and puts at which the size of a run counts.
+const SIZED: [u8; 13] = [
+    stage::OWN,
+    stage::TRY,
+    stage::WRITE,
+    stage::STEAL_COUNT,
+    stage::CHILD,
+    stage::CHILD,
+    stage::WORD,
+    stage::GIVE_BACK,
+    stage::FAIL,
+    stage::CLEAR,
+    stage::RAISE,
+    stage::TO_ENTRY,
+    stage::TO_TREE,
+];
+
+/// Records of runs, on words in fragments and small counts.
+pub fn short(player: &mut Player) -> Played {
+    let shape = sizes::small(&mut player.rng);
+    for _ in 0..10 {
+        let tables = states::short(&mut player.rng, shape);
+        player.load(tables);
+        for _ in 0..12 {
+            let rng = &mut player.rng;
+            let number = rng.pick(&SIZED);
+            let right = states::record(rng, shape, number);
+            let mut slot = Slot::of(resized(player, right));
+            player.call(Call::Step, &mut slot)?;
+        }
+    }
+    Ok(())
+}
+
+/// A record of a run, with a small hand.
+fn resized(player: &mut Player, record: Record) -> Record {
+    let order = states::run_order(&mut player.rng) as u8;
+    let few = states::few(&mut player.rng) as u16;
+    let number = match record.order {
+        9 => record.number * 512,
+        _ => record.number >> order << order,
+    };
+    Record {
+        order,
+        number,
+        hand: record.hand.min(few),
+        ..record
+    }
+}
+
 /// Runs of forged records.
 pub fn runs(player: &mut Player) -> Played {
     let shape = sizes::any(&mut player.rng);
@@ -130,12 +180,13 @@ pub fn changed(player: &mut Player) -> Played {
     for _ in 0..80 {
         let number = any_stage(player);
         let right = states::record(&mut player.rng, shape, number);
-        let words = match player.rng.below(8) {
+        let words = match player.rng.below(9) {
             0 => right.join(),
             1 => [states::any(&mut player.rng), states::any(&mut player.rng)],
             2 => flipped(player, right.join()),
             3 if player.rng.percent(30) => [0, 0],
             3 => change(player, right, shape).join(),
+            4 => other_order(player, right).join(),
             _ => still_a_record(player, right, shape),
         };
         let mut slot = Slot::with(words.to_vec());
@@ -156,6 +207,13 @@ fn flipped(player: &mut Player, mut words: [u64; 2]) -> [u64; 2] {
     words
 }
 
+/// An order that blocks have not, or that the stage may not have.
+fn other_order(player: &mut Player, record: Record) -> Record {
+    let above = player.rng.between(10, 255) as u8;
+    let order = player.rng.pick(&[3, 7, 8, 9, 9, 10, above]);
+    Record { order, ..record }
+}
+
 /// One field changed so that the words are a record still.
 fn still_a_record(player: &mut Player, record: Record, shape: Shape) -> [u64; 2] {
     for _ in 0..50 {
@@ -173,7 +231,8 @@ fn change(player: &mut Player, record: Record, shape: Shape) -> Record {
     let (trees, cpus) = (shape.trees() as u64, shape.cpus as u64);
     let width = shape.width(record.tree.into()) as u64;
     let capacity = states::capacity(shape, record.tree.into()) as u64;
-    let field = rng.below(15);
+    let field = rng.below(17);
+    let inside = 1 << rng.below(record.order.clamp(1, 6).into());
     let mut near = |edge: u64, most: u64| match rng.below(4) {
         0 | 1 => edge.min(most),
         2 => (edge + rng.below(3)).min(most),
@@ -183,7 +242,7 @@ fn change(player: &mut Player, record: Record, shape: Shape) -> Record {
     match field {
         _ if record.stage == stage::WORD && field < 5 => changed.word = near(8, 9) as u8,
         0 => changed.cpu = near(cpus, 255) as u8,
-        1 => changed.order = near(9, 255) as u8,
+        1 => changed.order = near(6, 12) as u8,
         2 => changed.kind = near(7, 255) as u8,
         3 => changed.start = near(width, 255) as u8,
         4 => changed.child = near(width, 255) as u8,
@@ -196,6 +255,7 @@ fn change(player: &mut Player, record: Record, shape: Shape) -> Record {
         11 => changed.base = record.tree,
         12 => changed.from = record.cpu,
         13 => changed.number = near(edge(record, shape), u32::MAX.into()),
+        14 | 15 => changed.number ^= inside,
         _ => changed.number = near(1 << 32, u64::MAX - 1),
     }
     changed

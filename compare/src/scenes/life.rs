@@ -18,7 +18,7 @@ pub fn cycle(player: &mut Player) -> Played {
     create(player, shape)?;
     for _ in 0..3 {
         let cpu = player.rng.below(shape.cpus as u64);
-        let order = player.rng.pick(&[0, 9]);
+        let order = states::order(&mut player.rng);
         let mut slot = Slot::new();
         player.call(Call::Get { cpu, order }, &mut slot)?;
         let steps = player.rng.pick(&[3, 6, 9, 30]);

@@ -19,22 +19,24 @@ const LARGEST_EVERY: u64 = 1_000;
 type Scene = fn(&mut Player) -> Played;
 
 /// The scenes, each with its share.
-const SCENES: [(u64, Scene); 15] = [
-    (24, schedule::mixed),
-    (10, schedule::crowded),
+const SCENES: [(u64, Scene); 17] = [
+    (15, schedule::mixed),
+    (8, schedule::crowded),
     (4, schedule::near),
     (40, forged::in_range),
-    (30, forged::damaged),
+    (40, forged::damaged),
     (60, forged::changed),
     (20, forged::runs),
     (4, forged::near),
+    (70, forged::short),
     (60, defects::one),
     (20, defects::several),
-    (10, beginnings::numbers),
+    (24, beginnings::numbers),
     (12, life::cycle),
     (12, life::closes),
     (12, life::opens),
     (12, directed::all),
+    (60, directed::fragmented),
 ];
 
 /// Plays scenes until the player's limit or a difference.

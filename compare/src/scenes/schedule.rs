@@ -171,7 +171,7 @@ impl Schedule {
             self.gets = player.rng.pick(&[20, 50, 80, 100]);
         }
         let call = if self.held.is_empty() || player.rng.percent(self.gets) {
-            let order = player.rng.pick(&[0, 0, 9]);
+            let order = states::order(&mut player.rng);
             Call::Get { cpu, order }
         } else {
             let (frame, order) = self.given_back(player);
@@ -185,11 +185,17 @@ impl Schedule {
     fn given_back(&mut self, player: &mut Player) -> (u64, u64) {
         if self.odd && player.rng.percent(3) {
             let frame = player.rng.below(512 * self.shape.n as u64);
-            let order = player.rng.pick(&[0, 9]);
-            return (if order == 9 { frame / 512 * 512 } else { frame }, order);
+            let order = states::order(&mut player.rng);
+            return (frame >> order << order, order);
         }
         let index = player.rng.below(self.held.len() as u64) as usize;
-        self.held.swap_remove(index)
+        let (frame, order) = self.held.swap_remove(index);
+        if self.odd && matches!(order, 1..=6) && player.rng.percent(15) {
+            let half = order - 1;
+            self.held.push((frame + (1 << half), half));
+            return (frame, half);
+        }
+        (frame, order)
     }
 
     /// A closed or cut zone: opened, or created if it has no header.

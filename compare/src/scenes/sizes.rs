@@ -72,7 +72,7 @@ pub fn largest(player: &mut Player) -> Played {
             player.call(call, &mut slot)?;
         }
     }
-    for order in [0, 9] {
+    for order in [0, 3, 6, 9] {
         let mut slot = Slot::new();
         player.call(Call::Get { cpu: 63, order }, &mut slot)?;
         player.call(Call::Run { fuel: u64::MAX }, &mut slot)?;

@@ -13,25 +13,56 @@ pub use damage::{bad_child, bad_cpu, bad_tree, cut, damage, flip};
 pub use records::record;
 
 pub const PRESENT: u64 = 1 << 63;
-/// Counts at the edges of classes and orders.
+/// Counts at the edges of classes and of huge frames.
 const COUNTS: [usize; 14] = [
     0, 1, 2, 511, 512, 513, 1_024, 2_047, 2_048, 14_336, 14_337, 15_872, 16_383, 16_384,
 ];
+/// Counts at the edges of runs.
+const SHORT: [usize; 10] = [3, 4, 7, 8, 15, 16, 31, 32, 63, 64];
+
+/// An order that blocks have: often 0 or 9.
+pub fn order(rng: &mut Rng) -> u64 {
+    rng.pick(&[0, 0, 0, 0, 9, 9, 9, 9, 9, 9, 1, 2, 3, 4, 5, 6])
+}
+
+/// The order of a run: 0 to 6.
+pub fn run_order(rng: &mut Rng) -> u64 {
+    rng.between(0, 6)
+}
 
 /// A random number of all 64 bits.
 pub fn any(rng: &mut Rng) -> u64 {
     rng.below(1 << 32) << 32 | rng.below(1 << 32)
 }
 
-/// A random word: empty, full, one zero bit, one set bit, or anything.
+/// A random word: empty, full, one zero bit, one set bit, fragments, or anything.
 pub fn word(rng: &mut Rng) -> u64 {
-    match rng.below(8) {
+    match rng.below(11) {
         0 | 1 => 0,
         2..=4 => u64::MAX,
         5 => !(1 << rng.below(64)),
         6 => 1 << rng.below(64),
+        7..=9 => fragments(rng),
         _ => any(rng),
     }
+}
+
+/// Aligned runs of one size, each full, free, or with one bit set.
+fn fragments(rng: &mut Rng) -> u64 {
+    let size = 1 << rng.between(0, 5);
+    let (free, full) = rng.pick(&[(10, 40), (40, 90), (3, 97), (0, 50)]);
+    let mut word = 0;
+    for bit in (0..64).step_by(size) {
+        let share = rng.below(100);
+        word |= if share < free {
+            0
+        } else if share < full {
+            (u64::MAX >> (64 - size)) << bit
+        } else {
+            1 << (bit as u64 + rng.below(size as u64))
+        };
+    }
+    word
 }
 
 /// Base frames of a tree.
@@ -41,10 +72,10 @@ pub fn capacity(shape: Shape, tree: usize) -> usize {
 
 /// A count of a tree, often at an edge.
 pub fn count(rng: &mut Rng, capacity: usize) -> usize {
-    if rng.percent(60) {
-        rng.pick(&COUNTS).min(capacity)
-    } else {
-        rng.below(capacity as u64 + 1) as usize
+    match rng.below(10) {
+        0..=5 => rng.pick(&COUNTS).min(capacity),
+        6 => rng.pick(&SHORT),
+        _ => rng.below(capacity as u64 + 1) as usize,
     }
 }
 
@@ -147,13 +178,43 @@ pub fn loose(rng: &mut Rng, shape: Shape) -> Packed {
 }
 
 fn loose_child(rng: &mut Rng) -> u16 {
-    match rng.below(5) {
-        0 => 0x8000,
-        1 => 0x0200,
-        2 => 0,
-        3 => 1,
+    let size = 1 << rng.between(1, 6);
+    match rng.below(10) {
+        0..=2 => 0x8000,
+        3 => 0x0200,
+        4 => 0,
+        5 => 1,
+        6 => size - rng.below(2) as u16,
+        7 => 512 - size + rng.below(2) as u16,
         _ => rng.below(513) as u16,
     }
+}
+
+/// Loose entries with words in fragments and counts around the sizes of runs.
+pub fn short(rng: &mut Rng, shape: Shape) -> Packed {
+    let mut packed = loose(rng, shape);
+    for entry in &mut packed.words {
+        *entry = fragments(rng);
+    }
+    for child in &mut packed.children {
+        if rng.percent(40) {
+            *child = few(rng) as u16;
+        }
+    }
+    for tree in &mut packed.trees {
+        *tree = *tree & 0x8000 | few(rng) as u16;
+    }
+    for cpu in 0..shape.cpus {
+        let tree = rng.below(shape.trees() as u64) as usize;
+        packed.cpus[cpu] = cpu_entry(tree, 0, few(rng));
+    }
+    packed
+}
+
+/// A count around the sizes of runs, most often small.
+pub fn few(rng: &mut Rng) -> usize {
+    let most = 1 << rng.between(0, 7);
+    rng.below(most) as usize
 }
 
 fn loose_cpu(rng: &mut Rng, shape: Shape) -> u64 {

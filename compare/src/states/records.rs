@@ -3,7 +3,7 @@
 use reference::rng::Rng;
 
 use crate::record::{Form, Record, kind, stage};
-use crate::states::{capacity, count};
+use crate::states::{self, capacity, count};
 use crate::translate::Shape;
 
 /// A random record of a stage, every field in its range.
@@ -12,11 +12,10 @@ pub fn record(rng: &mut Rng, shape: Shape, number: u8) -> Record {
         return Record::FINISHED;
     };
     let cpu = rng.below(shape.cpus as u64) as u8;
-    let order = if rng.percent(50) { 9 } else { 0 };
     let mut record = Record {
         stage: number,
         cpu: if form.cpu { cpu } else { 0 },
-        order: if form.order { order } else { 0 },
+        order: order(rng, &form),
         ..Record::FINISHED
     };
     place(rng, shape, &form, &mut record);
@@ -26,11 +25,22 @@ pub fn record(rng: &mut Rng, shape: Shape, number: u8) -> Record {
     record.start = field(form.start, width) as u8;
     record.child = field(form.child, width) as u8;
     record.word = field(form.word, 8) as u8;
-    record.number = field(form.number, numbers(shape, &record));
+    let (numbers, step) = numbers(shape, &record);
+    record.number = step * field(form.number, numbers);
     if form.hand {
         record.hand = count(rng, hands) as u16;
     }
     record
+}
+
+/// An order that the stage may have.
+fn order(rng: &mut Rng, form: &Form) -> u8 {
+    let order = if form.run {
+        states::run_order(rng)
+    } else {
+        states::order(rng)
+    };
+    if form.order { order as u8 } else { 0 }
 }
 
 /// A place of a kind that the stage may have; of another kind where no such place exists.
@@ -65,13 +75,14 @@ fn other(rng: &mut Rng, bound: u64, block: u64, number: u64) -> u64 {
     other + u64::from(other >= number)
 }
 
-/// How many numbers the second word of a stage has.
-fn numbers(shape: Shape, record: &Record) -> u64 {
+/// How many numbers the second word of a stage has, and their distance.
+fn numbers(shape: Shape, record: &Record) -> (u64, u64) {
     let n = shape.n as u64;
+    let size = record.size() as u64;
     match record.stage {
-        stage::CREATE_WORDS => 8 * n,
-        stage::CREATE_CHILDREN | stage::OPEN_CHILDREN => n,
-        _ if record.order == 9 => n,
-        _ => 512 * n,
+        stage::CREATE_WORDS => (8 * n, 1),
+        stage::CREATE_CHILDREN | stage::OPEN_CHILDREN => (n, 1),
+        _ if record.order == 9 => (n, 1),
+        _ => (512 * n / size, size),
     }
 }

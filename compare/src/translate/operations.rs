@@ -10,11 +10,9 @@ use crate::translate::places::{Spot, spot_of};
 
 const CHILD_FRAMES: u64 = 512;
 
+/// A record's order; a record has none that blocks have not.
 fn order_of(record: &Record) -> Order {
-    match record.order {
-        9 => Order::Huge,
-        _ => Order::Base,
-    }
+    Order::from_number(record.order.into()).unwrap_or(Order::BASE)
 }
 
 fn frame_of(record: &Record) -> u64 {
@@ -137,11 +135,12 @@ fn of_put(put: &Put) -> Record {
     on_block(stage, put.cpu, put.order, put.frame)
 }
 
-/// A record on a block: the frame, or the huge frame's number.
+/// A record on a block: a run's first frame, or the huge frame's number.
 fn on_block(stage: u8, cpu: usize, order: Order, frame: u64) -> Record {
-    let number = match order {
-        Order::Base => frame,
-        Order::Huge => frame / CHILD_FRAMES,
+    let number = if order.is_huge() {
+        frame / CHILD_FRAMES
+    } else {
+        frame
     };
     Record {
         stage,

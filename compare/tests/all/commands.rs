@@ -51,6 +51,7 @@ fn bad_arguments_print_the_usage() {
         &["replay", "--cpu", "1"],
         &["replay", "--cpus", "1", "--steps", "1", "--fault", "none"],
         &["calls", "--calls", ""],
+        &["calls", "--calls", "1", "--side", "both"],
     ] {
         let (status, printed, errors) = run(args);
         assert_eq!((status, &printed[..]), (2, ""), "{args:?}");
@@ -65,6 +66,13 @@ fn a_replay_names_its_first_difference() {
     assert_eq!(status, 1);
     assert!(printed.starts_with("step "), "{printed}");
     assert!(printed.contains("library"), "{printed}");
+}
+
+#[test]
+fn a_replay_of_the_reference_alone() {
+    let args = "replay --cpus 3 --steps 3000 --side reference";
+    let (status, printed, _) = run(&args.split(' ').collect::<Vec<_>>());
+    assert_eq!((status, &printed[..]), (0, "equal after 3000 steps\n"));
 }
 
 #[test]

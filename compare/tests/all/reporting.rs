@@ -2,7 +2,7 @@
 
 use compare::call::{Call, Outcome};
 use compare::difference::{self, Unequal, What};
-use compare::pair::Pair;
+use compare::pair::{Pair, Side};
 use compare::player::{Player, Slot, Stop};
 use compare::states;
 use compare::translate::Shape;
@@ -15,7 +15,7 @@ const SHAPE: Shape = Shape { n: 700, cpus: 3 };
 
 /// A table's name in a report and its index, after a change of the reference's zone.
 fn reported(change: impl Fn(&mut Zone)) -> Unequal {
-    let mut pair = Pair::new(states::fresh(SHAPE), None);
+    let mut pair = Pair::new(states::fresh(SHAPE), None, Side::default());
     change(&mut pair.model.zone);
     let (_, unequal) = pair.call(&Call::Get { cpu: 0, order: 0 }, &mut [0, 0]);
     unequal.expect("a difference")
@@ -45,7 +45,7 @@ fn each_table_is_named() {
         reported(|zone| zone.cpus[2] = CpuEntry::split(1 << 63)),
         unequal(What::Cpu(2), 0, 1 << 63)
     );
-    let mut pair = Pair::new(states::fresh(SHAPE), None);
+    let mut pair = Pair::new(states::fresh(SHAPE), None, Side::default());
     pair.model.zone.header = vec![Header::clean(700)];
     let found = difference::tables(&pair.library, &pair.model.zone);
     let clean = Header::clean(700).join();

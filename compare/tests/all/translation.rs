@@ -1,13 +1,14 @@
 //! The library's records, as the reference's and back.
 
-use compare::record::{Record, kind, stage};
+use compare::record::{Form, Record, kind, stage};
 use compare::states;
 use compare::translate::{
     Shape, creating, of_creating, of_opening, of_operation, opening, operation,
 };
-use reference::get::{Get, Stage};
+use reference::get::{Get, Search, Stage};
 use reference::lifecycle::{Creating, Opening};
 use reference::operation::{Operation, Order};
+use reference::put::{Put, PutStage};
 use reference::rng::Rng;
 
 const SHAPES: [Shape; 6] = [
@@ -45,17 +46,21 @@ fn every_kind_of_record_goes_round() {
     let mut rng = Rng::new(1, 0);
     for shape in SHAPES {
         for number in stage::ALL {
-            let mut kinds = [0; 7];
+            let (mut kinds, mut orders) = ([0; 7], [0; 10]);
             for _ in 0..600 {
                 let record = states::record(&mut rng, shape, number);
                 assert_eq!(Record::split(record.join()), Some(record));
+                orders[usize::from(record.order)] += 1;
                 if exists(&record) {
                     assert_eq!(back(record, shape), record, "{shape:?}");
                     kinds[usize::from(record.kind)] += 1;
                 }
             }
             let several = shape.cpus > 1 && shape.trees() > 1;
-            let form = compare::record::Form::of(number).unwrap();
+            let form = Form::of(number).unwrap();
+            for order in 0..10 {
+                assert_eq!(orders[usize::from(order)] > 0, form.has_order(order));
+            }
             if several {
                 assert!(form.kinds.clone().all(|kind| kinds[usize::from(kind)] > 0));
             }
@@ -103,7 +108,76 @@ fn records_have_the_layout() {
     let Operation::Put(put) = operation(Some(huge), SHAPES[2]) else {
         panic!("a put");
     };
-    assert_eq!((put.frame, put.order), (64 * 512, Order::Huge));
+    assert_eq!((put.frame, put.order), (64 * 512, Order::HUGE));
+}
+
+/// The operation of two words, and the words again.
+fn round(words: [u64; 2], shape: Shape) -> Operation {
+    let operation = operation(Record::split(words), shape);
+    assert_eq!(of_operation(&operation, shape).join(), words);
+    operation
+}
+
+#[test]
+fn records_of_runs() {
+    let shape = SHAPES[2];
+    for number in 0..=6 {
+        let order = Order::from_number(number).unwrap();
+        let byte = number << 40;
+        let first = 512 - order.size() as u64;
+        for (stage, words) in [
+            (PutStage::Clear, [0x1201_0000_0000_0000 | byte, first]),
+            (PutStage::RaiseChild, [0x1301_0000_0000_0000 | byte, first]),
+            (PutStage::OwnEntry, [0x1401_0000_0000_0000 | byte, first]),
+            (PutStage::Tree, [0x1501_0000_0000_0000 | byte, first]),
+        ] {
+            let (cpu, frame) = (1, first);
+            let put = Put {
+                cpu,
+                frame,
+                order,
+                stage,
+            };
+            assert_eq!(round(words, shape), Operation::Put(put));
+        }
+        let search = Search {
+            tree: 1,
+            start: 2,
+            tried: 3,
+        };
+        let place = 0x0001_0000_0000_0000;
+        for (stage, words) in [
+            (
+                Stage::SearchWord { search, word: 7 },
+                [0x0D01_0003_0205_0700 | byte, place],
+            ),
+            (
+                Stage::GiveBack(search),
+                [0x0E01_0003_0205_0000 | byte, place],
+            ),
+            (
+                Stage::KeepStart { frame: first },
+                [0x0F01_0000_0000_0000 | byte, first],
+            ),
+        ] {
+            let Operation::Get(get) = round(words, shape) else {
+                panic!("a get");
+            };
+            assert_eq!((get.cpu, get.order, get.stage), (1, order, stage));
+        }
+    }
+}
+
+/// Frames out of range or alignment are records that the reference refuses.
+#[test]
+fn frames_of_runs_are_any_numbers() {
+    for stage in [0x0F, 0x12, 0x13, 0x14, 0x15] {
+        for order in 0..=6 {
+            for frame in [0, 1, 63, 64, 1 << 32, u64::MAX] {
+                round([stage << 56 | order << 40, frame], SHAPES[1]);
+            }
+        }
+    }
 }
 
 #[test]
@@ -143,7 +217,9 @@ fn words_that_are_no_record() {
         [1, 0],
         [0, 1],
         [0x1E00_0000_0000_0000, 0],
-        [0x0100_0100_0000_0000, 0],
+        [0x0100_0700_0000_0000, 0],
+        [0x0100_0800_0000_0000, 0],
+        [0x0100_0A00_0000_0000, 0],
         [0x0100_0001_0000_0000, 0],
         [0x0100_0000_0000_0000, 1 << 48],
         [0x0200_0000_0000_0000, 1],
@@ -153,16 +229,23 @@ fn words_that_are_no_record() {
         [0x0800_0001_0000_0000, 0],
         [0x0B00_0005_0000_0000, 0],
         [0x0D00_0901_0000_0000, 0],
+        [0x0D00_0701_0000_0000, 0],
+        [0x0E00_0901_0000_0000, 0],
         [0x1100_0900_0000_0000, 0],
+        [0x1100_0100_0000_0000, 0],
         [0x1200_0900_0000_0000, 1 << 32],
+        [0x1200_0800_0000_0000, 0],
         [0x1300_0900_0000_0000, 0],
         [0x1600_0000_0000_0000, 1 << 32],
+        [0x1600_0100_0000_0000, 0],
+        [0x1C00_0600_0000_0000, 0],
         [0x1801_0000_0000_0000, 0],
         [0x1A00_0000_0000_0000, 1],
     ] {
         assert_eq!(Record::split(words), None, "{words:#x?}");
     }
     assert!(Record::split([0x1200_0000_0000_0000, u64::MAX]).is_some());
+    assert!(Record::split([0x1200_0600_0000_0000, u64::MAX]).is_some());
     assert_eq!(operation(None, SHAPES[1]), Operation::Finished);
     assert_eq!(creating(None, SHAPES[1]), Creating::Finished);
     assert_eq!(opening(None, SHAPES[1]), Opening::Finished);

@@ -5,7 +5,7 @@ use mathlib.Core.List.{List, [], _∷_, _++_}
 use Prim.Native.Nat.{ℕ, _*_, _%_, _≤_, _<_}
 use native.Mathlib.Omega.{arith}
 use lib.Dec.{eqb}
-use borrow.Author.Tests.{le-leb, lt-leb, eq-eqb, ne-eqb}
+use borrow.Author.Tests.{le-leb, lt-leb, lt-ltb, le-ltb, eq-eqb, ne-eqb}
 use Rattle.laws.specs.Tests.{pick}
 use Rattle.laws.proofs.Tests.{pick-elim, pick-yes, pick-no}
 use Rattle.rules.specs.Numbers.{childFrames}
@@ -13,12 +13,12 @@ use Rattle.rules.specs.Blocks.{size, blockAt}
 use Rattle.rules.specs.Zone.{Zone, shapeOf}
 use Rattle.rules.specs.Plan.{Plan, refuse, Refusal, guarded}
 use Rattle.rules.specs.Checks.{notOpen}
-use Rattle.rules.specs.Begin.{isOrder, orderOf, badCpu, badOrder, badFrame, misaligned, beginGet, beginPut}
+use Rattle.rules.specs.Begin.{isOrder, runOf, orderOf, badCpu, badOrder, badFrame, misaligned, beginGet, beginPut}
 use Rattle.rules.specs.Conversions as Conversions
 use Rattle.rules.specs.declared.Block.{Block}
 use Rattle.rules.specs.declared.Taking.{Taking}
 use Rattle.entries.specs.Sizes.{hugeOf}
-use Rattle.begins.specs.Types.{Frame, Order, Giving, Record, Answer, Shape, Checked, OrderAt}
+use Rattle.begins.specs.Types.{Frame, Run, Order, Giving, Record, Answer, Shape, Checked, OrderAt}
 use Rattle.calls.specs.Results.{zone, result, done}
 use Rattle.begins.specs.Orders.{orderAtIn, putOf}
 use Rattle.calls.proofs.Opened.{stores-nothing, stands, passed-by, checkedIn, checked-refused, checked-open}
@@ -26,17 +26,17 @@ use Rattle.calls.proofs.Opened.{stores-nothing, stands, passed-by, checkedIn, c
 -- ---- orders
 
 -- as the code tells them apart
-pub order-zero : (o : ℕ) → o ≡ 0 → OrderAt.At Order.Zero ≡ orderAtIn o
+pub order-run : (o : ℕ) {r : Run} → o < 7 → r ≡ runOf o → OrderAt.At (Order.Run r) ≡ orderAtIn o
 unfolding orderAtIn isOrder orderOf pick
-order-zero o e = rw e
+order-run o l e = rw (lt-ltb o 7 l, e)
 
 pub order-nine : (o : ℕ) → o ≡ 9 → OrderAt.At Order.Nine ≡ orderAtIn o
 unfolding orderAtIn isOrder orderOf pick
 order-nine o e = rw e
 
-pub order-none : (o : ℕ) → (o ≡ 0 → ⊥) → (o ≡ 9 → ⊥) → OrderAt.Nowhere ≡ orderAtIn o
+pub order-none : (o : ℕ) → 7 ≤ o → (o ≡ 9 → ⊥) → OrderAt.Nowhere ≡ orderAtIn o
 unfolding orderAtIn isOrder pick
-order-none o a b = rw (ne-eqb o 0 a, ne-eqb o 9 b)
+order-none o a b = rw (le-ltb o 7 a, ne-eqb o 9 b)
 
 -- what they tell
 no-order : (o : ℕ) → orderAtIn o ≡ OrderAt.Nowhere → not (isOrder o) ≡ true
@@ -121,15 +121,15 @@ module _ (h w c t p : List ℕ) (cpu o : ℕ) where
           (good-order b n (badFrame z f ∷ misaligned o f ∷ []) (put f) ∙ passed-by (badFrame z f) (misaligned o f ∷ []) (put f) (lt-leb _ _ (rw (m, ← huge-same) at l)) ∙ refused-unless (eqb (f .0 % size (orderOf o)) 0) _ _ ∙ ap (λ k. refuse (putOf cpu f k)) (an-order o n .1) ∙ ap refuse (sym r))
 
 -- ---- the put of a frame of the zone, by its order
-module _ (cpu : ℕ) (f : Frame) {o : Order} where
-  pub put-zero : o ≡ Order.Zero → Answer.UnderWay (Record.Put cpu (Giving.Clear (Block.Base f))) ≡ putOf cpu f o
+module _ (cpu : ℕ) (f : Frame) (o : Order) {s : ℕ} (e : s ≡ size o) where
+  pub put-misaligned : (f .0 % s ≡ 0 → ⊥) → Answer.Misaligned ≡ putOf cpu f o
   unfolding putOf
-  put-zero e = rw e (sym (pick-yes _ _ _ (eq-eqb (f .0 % 1) 0 (omega arith))))
+  put-misaligned n = sym (pick-no _ _ _ (ne-eqb _ _ (rw e at n)))
 
-  pub put-misaligned : o ≡ Order.Nine → (f .0 % childFrames ≡ 0 → ⊥) → Answer.Misaligned ≡ putOf cpu f o
+  pub put-run : {r : Run} → f .0 % s ≡ 0 → o ≡ Order.Run r → Answer.UnderWay (Record.Put cpu (Giving.Clear (Block.Run r f))) ≡ putOf cpu f o
   unfolding putOf
-  put-misaligned e n = rw e (sym (pick-no _ _ _ (ne-eqb _ _ n)))
+  put-run n q = ap (λ x. Answer.UnderWay (Record.Put cpu (Giving.Clear (blockAt x f)))) (sym q) ∙ sym (pick-yes _ _ _ (eq-eqb _ _ (rw e at n)))
 
-  pub put-nine : o ≡ Order.Nine → f .0 % childFrames ≡ 0 → Answer.UnderWay (Record.Put cpu (Giving.Clear (Block.Whole (Conversions.hugeOf f)))) ≡ putOf cpu f o
+  pub put-nine : f .0 % s ≡ 0 → o ≡ Order.Nine → Answer.UnderWay (Record.Put cpu (Giving.Clear (Block.Whole (Conversions.hugeOf f)))) ≡ putOf cpu f o
   unfolding putOf
-  put-nine e n = rw e (sym (pick-yes _ _ _ (eq-eqb _ _ n)))
+  put-nine n q = ap (λ x. Answer.UnderWay (Record.Put cpu (Giving.Clear (blockAt x f)))) (sym q) ∙ sym (pick-yes _ _ _ (eq-eqb _ _ (rw e at n)))

@@ -1,5 +1,6 @@
 -- The types that src/ declares, and those of the crates below, under one name.
 pub use Rattle.rules.specs.declared.Frame.{Frame}
+pub use Rattle.rules.specs.declared.Run.{Run}
 pub use Rattle.rules.specs.declared.Order.{Order}
 pub use Rattle.rules.specs.declared.Giving.{Giving}
 pub use Rattle.rules.specs.declared.Record.{Record}

@@ -16,6 +16,9 @@ use rules::Taking;
 
 const CHILD_FRAMES: u64 = 512;
 
+// Orders 0 to 6.
+const RUNS: u64 = 7;
+
 enum OrderAt {
     At(Order),
     Nowhere,
@@ -24,8 +27,8 @@ enum OrderAt {
 fn order_at(order: u64) -> OrderAt
     ensures { λ r. ⌜ r ≡ orderAtIn order ⌝ }
 {
-    if order == 0 {
-        return OrderAt::At(Order::Zero);
+    if order < RUNS {
+        return OrderAt::At(Order::Run(rules::run_of(order)));
     }
     if order == 9 {
         return OrderAt::At(Order::Nine);
@@ -67,20 +70,18 @@ fn put_of(cpu: u8, frame: Frame, order: Order) -> Answer
     requires { ⌜ frame .0 < 2 ^ 25 ⌝ }
     ensures { λ r. ⌜ r ≡ putOf cpu frame order ⌝ }
 {
+    if frame.0 % places::frames_of(order) as u64 != 0 {
+        return Answer::Misaligned;
+    }
     match order {
-        Order::Zero => Answer::UnderWay(Record::Put {
+        Order::Run(run) => Answer::UnderWay(Record::Put {
             cpu,
-            stage: Giving::Clear(Block::Base(frame)),
+            stage: Giving::Clear(Block::Run { run, first: frame }),
         }),
-        Order::Nine => {
-            if frame.0 % CHILD_FRAMES != 0 {
-                return Answer::Misaligned;
-            }
-            Answer::UnderWay(Record::Put {
-                cpu,
-                stage: Giving::Clear(Block::Whole(Huge((frame.0 / CHILD_FRAMES) as u32))),
-            })
-        }
+        Order::Nine => Answer::UnderWay(Record::Put {
+            cpu,
+            stage: Giving::Clear(Block::Whole(Huge((frame.0 / CHILD_FRAMES) as u32))),
+        }),
     }
 }
 

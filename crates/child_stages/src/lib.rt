@@ -20,6 +20,7 @@ use rules::Giving;
 use rules::Huge;
 use rules::Order;
 use rules::Place;
+use rules::Run;
 use rules::Taking;
 use rules::Took;
 use rules::Tree;
@@ -123,27 +124,29 @@ fn next_child(shape: Shape, cpu: u8, order: Order, place: Place, start: u8, chil
 
 // ---- rule 5: the search
 
-// A claim of one frame on a child.
-pub fn child_zero(
+// The claim of a run on a child.
+pub fn child_run(
     children: &mut [u16],
     shape: Shape,
     cpu: u8,
+    run: Run,
     place: Place,
     start: u8,
     child: u8,
 ) -> Answer
-    ensures { λ r. ⌜ outcome r (now (children .exit)) ≡ inChildren (shapeOf shape) (take (shapeOf shape) cpu (Taking.Child Order.Zero place start child)) (now (children .entry)) ⌝ }
+    ensures { λ r. ⌜ outcome r (now (children .exit)) ≡ inChildren (shapeOf shape) (take (shapeOf shape) cpu (Taking.Child (Order.Run run) place start child)) (now (children .entry)) ⌝ }
 {
     let tree = places::place_tree(place);
     if entries::children_of(shape.size, tree) <= child as u16 {
         return Answer::BadRecord;
     }
-    let passed = next_child(shape, cpu, Order::Zero, place, start, child);
-    let said = claim(children, shape, tree, child, 1);
+    let passed = next_child(shape, cpu, Order::Run(run), place, start, child);
+    let said = claim(children, shape, tree, child, rules::frames_of(run));
     claimed_answer(
         calls::get(
             cpu,
             Taking::Word {
+                run,
                 place,
                 start,
                 child,
@@ -176,23 +179,24 @@ pub fn child_nine(
     claimed_answer(calls::get(cpu, Taking::Last(block)), passed, said)
 }
 
-// Eight full words: the count is given back.
+// Eight words without a free run: the count is given back.
 pub fn give_back(
     children: &mut [u16],
     shape: Shape,
     cpu: u8,
+    run: Run,
     place: Place,
     start: u8,
     child: u8,
 ) -> Answer
-    ensures { λ r. ⌜ outcome r (now (children .exit)) ≡ inChildren (shapeOf shape) (take (shapeOf shape) cpu (Taking.GiveBack place start child)) (now (children .entry)) ⌝ }
+    ensures { λ r. ⌜ outcome r (now (children .exit)) ≡ inChildren (shapeOf shape) (take (shapeOf shape) cpu (Taking.GiveBack run place start child)) (now (children .entry)) ⌝ }
 {
     let tree = places::place_tree(place);
     if entries::children_of(shape.size, tree) <= child as u16 {
         return Answer::BadRecord;
     }
-    let next = next_child(shape, cpu, Order::Zero, place, start, child);
-    let said = give_count(children, shape, tree, child, 1);
+    let next = next_child(shape, cpu, Order::Run(run), place, start, child);
+    let said = give_count(children, shape, tree, child, rules::frames_of(run));
     lending::given_answer(next, said)
 }
 
@@ -211,15 +215,18 @@ pub fn clear_whole(children: &mut [u16], shape: Shape, cpu: u8, huge: Huge) -> A
     }
 }
 
-// The child's count rises by 1.
-pub fn raise(children: &mut [u16], shape: Shape, cpu: u8, frame: Frame) -> Answer
-    ensures { λ r. ⌜ outcome r (now (children .exit)) ≡ ranged (shapeOf shape) (Block.Base frame) (inChildren (shapeOf shape) (give (shapeOf shape) cpu (Giving.Raise frame))) (now (children .entry)) ⌝ }
+// The child's count rises by the run's frames.
+pub fn raise(children: &mut [u16], shape: Shape, cpu: u8, run: Run, first: Frame) -> Answer
+    ensures { λ r. ⌜ outcome r (now (children .exit)) ≡ ranged (shapeOf shape) (Block.Run run first) (inChildren (shapeOf shape) (give (shapeOf shape) cpu (Giving.Raise run first))) (now (children .entry)) ⌝ }
 {
-    match places::block_at(shape, Block::Base(frame)) {
+    match places::block_at(shape, Block::Run { run, first }) {
         BlockAt::Nowhere => Answer::BadRecord,
         BlockAt::At { tree, child } => {
-            let said = give_count(children, shape, tree, child, 1);
-            lending::given_answer(calls::put(cpu, Giving::ToEntry(Block::Base(frame))), said)
+            let said = give_count(children, shape, tree, child, rules::frames_of(run));
+            lending::given_answer(
+                calls::put(cpu, Giving::ToEntry(Block::Run { run, first })),
+                said,
+            )
         }
     }
 }

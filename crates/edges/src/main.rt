@@ -16,6 +16,7 @@ use lower::Zeros;
 use rules::Bit;
 use rules::ChildEntry;
 use rules::Gave;
+use rules::Run;
 use rules::Took;
 
 fn name(text: &[u8]) {
@@ -56,6 +57,16 @@ fn line4(text: &[u8], a: u64, b: u64, c: u64, d: u64) {
     number(b);
     number(c);
     number(d);
+    end();
+}
+
+fn line5(text: &[u8], a: u64, b: u64, c: u64, d: u64, e: u64) {
+    name(text);
+    number(a);
+    number(b);
+    number(c);
+    number(d);
+    number(e);
     end();
 }
 
@@ -249,31 +260,75 @@ fn field(word: usize, value: u64) -> [u64; 8]
     words
 }
 
-fn take_bit(word: usize, value: u64)
+// The run's frames are a line's first number.
+fn take_run(word: usize, value: u64, run: Run)
     requires { ⌜ word < 8 ⌝ }
 {
     let mut words = field(word, value);
-    let said = taken(lower::take_bit(&mut words, 0, word));
-    line4(b"take_bit", word as u64, value, said, words[word]);
+    let said = taken(lower::take_run(&mut words, 0, word, run));
+    line5(
+        b"take_run",
+        wide(rules::frames_of(run)),
+        word as u64,
+        value,
+        said,
+        words[word],
+    );
 }
 
-fn clear_bit(value: u64, bit: u32) {
+fn clear_run(value: u64, bit: u32, run: Run) {
     let mut words = field(7, value);
-    let said = given(lower::clear_bit(&mut words, 0, 7, bit));
-    line4(b"clear_bit", value, bit as u64, said, words[7]);
+    let said = given(lower::clear_run(&mut words, 0, 7, bit, run));
+    line5(
+        b"clear_run",
+        wide(rules::frames_of(run)),
+        value,
+        bit as u64,
+        said,
+        words[7],
+    );
 }
 
 fn word(w: u64) {
-    take_bit(0, w);
-    take_bit(7, w);
-    clear_bit(w, 0);
-    clear_bit(w, 1);
-    clear_bit(w, 63);
-    clear_bit(w, 64);
+    take_run(0, w, Run::One);
+    take_run(7, w, Run::One);
+    clear_run(w, 0, Run::One);
+    clear_run(w, 1, Run::One);
+    clear_run(w, 63, Run::One);
+    clear_run(w, 64, Run::One);
     let words = field(7, w);
     line2(b"zero_bits", w, zeros(lower::zero_bits(&words, 0)));
     let alone = [0, 0, 0, 0, 0, 0, 0, w];
     line2(b"field_empty", w, empty(lower::field_empty(&alone, 0)));
+}
+
+// Only bit 63 set; only bits 4 and 5 clear, a pair; only bits 5 and 6, no pair; only bit 0 and the last eight clear.
+const TOP: u64 = 0x8000_0000_0000_0000;
+
+const PAIR: u64 = 0xffff_ffff_ffff_ffcf;
+
+const NO_PAIR: u64 = 0xffff_ffff_ffff_ff9f;
+
+const ENDS: u64 = 0x00ff_ffff_ffff_fffe;
+
+fn runs(w: u64) {
+    take_run(7, w, Run::Two);
+    take_run(7, w, Run::Eight);
+    take_run(7, w, Run::SixtyFour);
+}
+
+// Each size with all its bits set, with one of them clear, and past the word's end.
+fn clear_runs() {
+    clear_run(FULL, 2, Run::Two);
+    clear_run(FIRST, 0, Run::Two);
+    clear_run(FULL, 63, Run::Two);
+    clear_run(FULL, 0xffff_ffff, Run::Two);
+    clear_run(FULL, 56, Run::Eight);
+    clear_run(LAST, 56, Run::Eight);
+    clear_run(FULL, 57, Run::Eight);
+    clear_run(FULL, 0, Run::SixtyFour);
+    clear_run(LAST, 0, Run::SixtyFour);
+    clear_run(FULL, 1, Run::SixtyFour);
 }
 
 // ---- slices of length 0, one short, right and one long; an index below the length, at it and past it
@@ -337,23 +392,23 @@ fn looks_in(children: &[u16], at: usize) {
     );
 }
 
-fn take_bit_in(words: &mut [u64], child: usize, at: usize) {
+fn take_run_in(words: &mut [u64], child: usize, at: usize) {
     line4(
-        b"take_bit_in",
+        b"take_run_in",
         words.len() as u64,
         child as u64,
         at as u64,
-        taken(lower::take_bit(words, child, at)),
+        taken(lower::take_run(words, child, at, Run::One)),
     );
 }
 
-fn clear_bit_in(words: &mut [u64], child: usize, at: usize) {
+fn clear_run_in(words: &mut [u64], child: usize, at: usize) {
     line4(
-        b"clear_bit_in",
+        b"clear_run_in",
         words.len() as u64,
         child as u64,
         at as u64,
-        given(lower::clear_bit(words, child, at, 0)),
+        given(lower::clear_run(words, child, at, 0, Run::One)),
     );
 }
 
@@ -398,8 +453,8 @@ fn of_children(children: &mut [u16], at: usize) {
 }
 
 fn of_words(words: &mut [u64], child: usize, at: usize) {
-    take_bit_in(words, child, at);
-    clear_bit_in(words, child, at);
+    take_run_in(words, child, at);
+    clear_run_in(words, child, at);
     fields_in(words, child);
     fresh_word_in(words, at);
 }
@@ -431,12 +486,19 @@ fn words_of() {
 
 // ---- the plain search: the first child is taken whole, the second full below a count, the third has its last two bits
 
-fn search(start: usize, second: u16, third: u16) {
+fn search(start: usize, second: u16, third: u16, run: Run) {
     let mut children = [0x8000, second, third];
     let mut words = [u64::MAX; 24];
     words[23] = 0x3fff_ffff_ffff_ffff;
-    let said = searched(lower::search(&mut children, &mut words, start));
-    line4(b"search", start as u64, second as u64, third as u64, said);
+    let said = searched(lower::search(&mut children, &mut words, start, run));
+    line5(
+        b"search",
+        wide(rules::frames_of(run)),
+        start as u64,
+        second as u64,
+        third as u64,
+        said,
+    );
     line4(
         b"leaves",
         wide(children[0]),
@@ -447,17 +509,17 @@ fn search(start: usize, second: u16, third: u16) {
 }
 
 fn searches(start: usize) {
-    search(start, 0, 2);
-    search(start, 1, 2);
-    search(start, 1, 0);
-    search(start, 513, 2);
+    search(start, 0, 2, Run::One);
+    search(start, 1, 2, Run::One);
+    search(start, 1, 0, Run::One);
+    search(start, 513, 2, Run::One);
 }
 
 fn search_short() {
     let mut children = [1, 1];
     let mut words = [0; 15];
     name(b"search_short");
-    number(searched(lower::search(&mut children, &mut words, 0)));
+    number(searched(lower::search(&mut children, &mut words, 0, Run::One)));
     end();
 }
 
@@ -470,7 +532,7 @@ fn too_many() {
         b"too_many",
         summed(lower::sum(&children)),
         summed(lower::sum(&children[..65536])),
-        searched(lower::search(&mut children, &mut words, 0)),
+        searched(lower::search(&mut children, &mut words, 0, Run::One)),
     );
 }
 
@@ -491,6 +553,14 @@ fn main() {
     word(FULL);
     word(FIRST);
     word(LAST);
+    runs(0);
+    runs(FULL);
+    runs(1);
+    runs(TOP);
+    runs(PAIR);
+    runs(NO_PAIR);
+    runs(ENDS);
+    clear_runs();
     children_of(0);
     children_of(1);
     children_of(2);
@@ -499,6 +569,8 @@ fn main() {
     searches(1);
     searches(2);
     searches(3);
+    search(1, 2, 2, Run::Two);
+    search(1, 2, 4, Run::Four);
     search_short();
     too_many();
 }

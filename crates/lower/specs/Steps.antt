@@ -1,15 +1,14 @@
 -- What the crate's functions answer and leave, on any table and any number, by the rules for one child entry and one word.
-use mathlib.Core.List.{List, []}
+use mathlib.Core.List.{List}
 use Prim.Native.Nat.{ℕ, _+_, _*_, _/_}
 use lib.Dec.{ltb, leb}
 use lib.ListN.{length, getD}
 use Rattle.laws.specs.Tests.{pick}
 use Rattle.laws.specs.Tables.{Outcome, outcome, wrapped}
 use Rattle.rules.specs.Numbers.{childWords, wordBits, mostHuge}
-use Rattle.rules.specs.Blocks.{size}
 use Rattle.rules.specs.Entries.{field}
 use Rattle.rules.specs.Lower.{Lowered, told, changed, childLayout, childSays, byChild, claim, takeHuge, giveCount, clearHuge, takeRun, clearRun, freshWord, freshChild, recount, zeroBits, emptyField, partSum}
-use Rattle.lower.specs.Types.{Order, Bit, Fields, Low, Claimed, Taken, Given, Stored, Recounted, Looked, Zeros, Empty, Summed}
+use Rattle.lower.specs.Types.{Bit, Fields, Low, Claimed, Taken, Given, Stored, Recounted, Looked, Zeros, Empty, Summed}
 use Rattle.lower.specs.Tables.{stepAt, stepIn}
 
 -- ---- one entry, and one word
@@ -41,17 +40,19 @@ clearHugeIn = stepIn Given.Entry Given.NoChild clearHuge
 abbrev pub fieldsIn : List ℕ → ℕ
 fieldsIn ws = length ws / childWords
 
-unfoldable pub takeBitIn : List ℕ → ℕ → ℕ → Outcome Taken
-takeBitIn ws c w =
+-- the lowest free run of s bits is set
+unfoldable pub takeRunIn : ℕ → List ℕ → ℕ → ℕ → Outcome Taken
+takeRunIn s ws c w =
     pick (ltb c (fieldsIn ws))
-    (pick (ltb w childWords) (wrapped Taken.Word (stepAt (takeRun (size Order.Zero)) ws (childWords * c + w))) (outcome Taken.NoWord ws))
+    (pick (ltb w childWords) (wrapped Taken.Word (stepAt (takeRun s) ws (childWords * c + w))) (outcome Taken.NoWord ws))
     (outcome Taken.NoChild ws)
 
-unfoldable pub clearBitIn : List ℕ → ℕ → ℕ → ℕ → Outcome Given
-clearBitIn ws c w b =
+-- the run of s bits from b on is cleared, where it ends in the word
+unfoldable pub clearRunIn : ℕ → List ℕ → ℕ → ℕ → ℕ → Outcome Given
+clearRunIn s ws c w b =
     pick (ltb c (fieldsIn ws))
     (pick (ltb w childWords)
-    (pick (ltb b wordBits) (wrapped Given.Entry (stepAt (clearRun (size Order.Zero) b) ws (childWords * c + w))) (outcome Given.NoBit ws))
+    (pick (leb (b + s) wordBits) (wrapped Given.Entry (stepAt (clearRun s b) ws (childWords * c + w))) (outcome Given.NoBit ws))
     (outcome Given.NoWord ws))
     (outcome Given.NoChild ws)
 

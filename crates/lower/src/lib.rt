@@ -2,20 +2,21 @@
 // A function takes a slice of any length, any number and any entry. What is wrong it answers, and then it stores nothing.
 ghost use mathlib.Core.Path.{_≡_};
 ghost use mathlib.Core.List.{[], _∷_};
-ghost use Prim.Native.Nat.{_+_, _*_, _^_, _≤_, _<_};
+ghost use Prim.Native.Nat.{_+_, _-_, _*_, _^_, _≤_, _<_};
 ghost use lib.ListN.{length};
 ghost use Rattle.laws.specs.Fields.{join};
-ghost use Rattle.rules.specs.Numbers.{childWords};
+ghost use Rattle.rules.specs.Blocks.{runSize};
 ghost use Rattle.rules.specs.Lower.{childLayout, childSays, countIn, claim, takeHuge, giveCount, clearHuge, takeRun, clearRun, zeroBits};
 ghost use Rattle.laws.specs.Words.{zeros};
 ghost use Rattle.laws.specs.Tables.{outcome};
 ghost use Rattle.lower.specs.Tables.{stepAt};
-ghost use Rattle.lower.specs.Steps.{fieldsOf, lowOf, fieldsIn, claimIn, takeHugeIn, giveIn, clearHugeIn, takeBitIn, clearBitIn, freshWordIn, freshChildIn, recountIn, lookIn, zerosIn, emptyIn, sumIn};
+ghost use Rattle.lower.specs.Steps.{fieldsOf, lowOf, fieldsIn, claimIn, takeHugeIn, giveIn, clearHugeIn, takeRunIn, clearRunIn, freshWordIn, freshChildIn, recountIn, lookIn, zerosIn, emptyIn, sumIn};
 ghost use Rattle.lower.specs.Search.{search, searchIn};
 use rules::Bit;
 use rules::ChildEntry;
 use rules::Frame;
 use rules::Gave;
+use rules::Run;
 use rules::Took;
 
 // Frames a child, words a child, bits a word; the most children of a zone.
@@ -79,16 +80,37 @@ enum Low {
     Full,
 }
 
-// The word leaf: the lowest zero bit found and set.
-fn take_low(word: u64) -> Low
-    ensures { λ r. ⌜ lowOf r ≡ takeRun 1 word ⌝ }
+// The bits of a run.
+fn size_of(run: Run) -> u32
+    ensures { λ r. ⌜ (r ≡ runSize run) × (0 < r) × (r ≤ 64) ⌝ }
 {
-    let bit = u64::trailing_zeros(!word);
-    if bit < WORD_BITS {
-        return Low::At {
-            bit: bit as u8,
-            word: word | 1u64 << bit,
-        };
+    rules::frames_of(run) as u32
+}
+
+// As many ones, the lowest bits of a word.
+fn ones_of(size: u32) -> u64
+    requires { ⌜ (0 < size) × (size ≤ 64) ⌝ }
+    ensures { λ r. ⌜ r ≡ 2 ^ size - 1 ⌝ }
+{
+    u64::MAX >> (WORD_BITS - size)
+}
+
+// The word leaf: the lowest free run found and set. Below the run that holds the lowest zero bit every bit is set.
+fn take_low(word: u64, run: Run) -> Low
+    ensures { λ r. ⌜ lowOf r ≡ takeRun (runSize run) word ⌝ }
+{
+    let size = size_of(run);
+    let ones = ones_of(size);
+    let mut bit = u64::trailing_zeros(!word) & !(size - 1);
+    while bit < WORD_BITS {
+        let mask = ones << bit;
+        if word & mask == 0 {
+            return Low::At {
+                bit: bit as u8,
+                word: word | mask,
+            };
+        }
+        bit += size;
     }
     Low::Full
 }
@@ -107,14 +129,14 @@ pub enum Claimed {
     NoChild,
 }
 
-// The taking of a bit.
+// The taking of a run.
 pub enum Taken {
     Word(Bit),
     NoChild,
     NoWord,
 }
 
-// A count given back, a bit or a huge frame cleared.
+// A count given back, a run or a huge frame cleared.
 pub enum Given {
     Entry(Gave),
     NoChild,
@@ -236,13 +258,13 @@ fn clear_huge_at(children: &mut [u16], child: usize) -> Gave
     }
 }
 
-fn take_at(words: &mut [u64], at: usize) -> Bit
+fn take_at(words: &mut [u64], at: usize, run: Run) -> Bit
     requires { ⌜ at < length (now words) ⌝ }
-    ensures { λ r. ⌜ outcome r (now (words .exit)) ≡ stepAt (takeRun 1) (now (words .entry)) at ⌝ }
+    ensures { λ r. ⌜ outcome r (now (words .exit)) ≡ stepAt (takeRun (runSize run)) (now (words .entry)) at ⌝ }
 {
-    match take_low(words[at]) {
+    match take_low(words[at], run) {
         Low::At { bit, word } => {
-            // rule 5, order 0: the taking store
+            // rule 5, orders 0 to 6: the taking store
             words[at] = word;
             Bit::At(bit)
         }
@@ -250,16 +272,16 @@ fn take_at(words: &mut [u64], at: usize) -> Bit
     }
 }
 
-fn clear_at(words: &mut [u64], at: usize, bit: u32) -> Gave
-    requires { ⌜ (at < length (now words)) × (bit < 64) ⌝ }
-    ensures { λ r. ⌜ outcome r (now (words .exit)) ≡ stepAt (clearRun 1 bit) (now (words .entry)) at ⌝ }
+fn clear_at(words: &mut [u64], at: usize, bit: u32, run: Run) -> Gave
+    requires { ⌜ (at < length (now words)) × (bit + runSize run ≤ 64) ⌝ }
+    ensures { λ r. ⌜ outcome r (now (words .exit)) ≡ stepAt (clearRun (runSize run) bit) (now (words .entry)) at ⌝ }
 {
     let word = words[at];
-    let mask = 1u64 << bit;
-    if word & mask == 0 {
+    let mask = ones_of(size_of(run)) << bit;
+    if word & mask != mask {
         return Gave::NotTaken;
     }
-    // giving back, order 0: the clearing store
+    // giving back, orders 0 to 6: the clearing store
     words[at] = word & !mask;
     Gave::Given
 }
@@ -318,9 +340,9 @@ pub fn take_huge(children: &mut [u16], child: usize) -> Claimed
     Claimed::Entry(take_huge_at(children, child))
 }
 
-// Rule 5: the lowest zero bit of word `word` of a child is set. Refuses a child whose field the table has not whole, then a word past the eighth.
-pub fn take_bit(words: &mut [u64], child: usize, word: usize) -> Taken
-    ensures { λ r. ⌜ outcome r (now (words .exit)) ≡ takeBitIn (now (words .entry)) child word ⌝ }
+// Rule 5: the lowest free run of word `word` of a child is set. Refuses a child whose field the table has not whole, then a word past the eighth.
+pub fn take_run(words: &mut [u64], child: usize, word: usize, run: Run) -> Taken
+    ensures { λ r. ⌜ outcome r (now (words .exit)) ≡ takeRunIn (runSize run) (now (words .entry)) child word ⌝ }
 {
     if words.len() / CHILD_WORDS <= child {
         return Taken::NoChild;
@@ -328,7 +350,7 @@ pub fn take_bit(words: &mut [u64], child: usize, word: usize) -> Taken
     if CHILD_WORDS <= word {
         return Taken::NoWord;
     }
-    Taken::Word(take_at(words, CHILD_WORDS * child + word))
+    Taken::Word(take_at(words, CHILD_WORDS * child + word, run))
 }
 
 // A count rises by `size`: a child with a set, or a sum past 512, is damaged.
@@ -341,9 +363,9 @@ pub fn give_count(children: &mut [u16], child: usize, size: u16) -> Given
     Given::Entry(give_at(children, child, size))
 }
 
-// Giving back, order 0: a bit that is set is cleared. Refuses the child, then the word, then the bit.
-pub fn clear_bit(words: &mut [u64], child: usize, word: usize, bit: u32) -> Given
-    ensures { λ r. ⌜ outcome r (now (words .exit)) ≡ clearBitIn (now (words .entry)) child word bit ⌝ }
+// Giving back, orders 0 to 6: a run whose bits are all set is cleared. Refuses the child, then the word, then a bit whose run does not end in the word.
+pub fn clear_run(words: &mut [u64], child: usize, word: usize, bit: u32, run: Run) -> Given
+    ensures { λ r. ⌜ outcome r (now (words .exit)) ≡ clearRunIn (runSize run) (now (words .entry)) child word bit ⌝ }
 {
     if words.len() / CHILD_WORDS <= child {
         return Given::NoChild;
@@ -351,10 +373,10 @@ pub fn clear_bit(words: &mut [u64], child: usize, word: usize, bit: u32) -> Give
     if CHILD_WORDS <= word {
         return Given::NoWord;
     }
-    if WORD_BITS <= bit {
+    if WORD_BITS - size_of(run) < bit {
         return Given::NoBit;
     }
-    Given::Entry(clear_at(words, CHILD_WORDS * child + word, bit))
+    Given::Entry(clear_at(words, CHILD_WORDS * child + word, bit, run))
 }
 
 // Giving back, order 9: a set becomes a clear, count 512.
@@ -473,11 +495,11 @@ pub fn sum(children: &[u16]) -> Summed
 
 // ---- the plain search
 
-// Rule 5 for one base frame: children from the start child round to it again, each once, by words 0 to 7. Both loops are left with the frame, counted
+// Rule 5 for a run: children from the start child round to it again, each once, by words 0 to 7. Both loops are left with the run's first frame, counted
 // from the part's first, or at a malformed child. Refuses a part of more children than a zone has, then a start child that the table has not, then
 // words that lack a field.
-pub fn search(children: &mut [u16], words: &mut [u64], start: usize) -> Searched
-    ensures { λ r. ⌜ search r (now (children .exit)) (now (words .exit)) ≡ searchIn (now (children .entry)) (now (words .entry)) start ⌝ }
+pub fn search(children: &mut [u16], words: &mut [u64], start: usize, run: Run) -> Searched
+    ensures { λ r. ⌜ search r (now (children .exit)) (now (words .exit)) ≡ searchIn (runSize run) (now (children .entry)) (now (words .entry)) start ⌝ }
 {
     let n = children.len();
     if MOST_CHILDREN < n {
@@ -489,15 +511,16 @@ pub fn search(children: &mut [u16], words: &mut [u64], start: usize) -> Searched
     if words.len() / CHILD_WORDS < n {
         return Searched::NoField;
     }
+    let size = rules::frames_of(run);
     let mut found = Searched::Nothing;
     let mut child = start;
     let mut turn: usize = 0;
     'children: while turn < n {
-        match claim_at(children, child, 1) {
+        match claim_at(children, child, size) {
             Took::Taken => {
                 let mut word: usize = 0;
                 while word < CHILD_WORDS {
-                    match take_at(words, CHILD_WORDS * child + word) {
+                    match take_at(words, CHILD_WORDS * child + word, run) {
                         Bit::At(bit) => {
                             found = Searched::Frame(frame_at(child, word, bit));
                             break 'children;
@@ -506,7 +529,7 @@ pub fn search(children: &mut [u16], words: &mut [u64], start: usize) -> Searched
                     }
                     word += 1;
                 }
-                give_at(children, child, 1);
+                give_at(children, child, size);
             }
             Took::Passed => {}
             Took::Damaged => {

@@ -28,7 +28,7 @@ next-fits s i e y h = omega (arith, ltb-true (suc i) (treesOf (shapeOf s)) (sym 
 
 -- a block of the zone lies in a huge frame of the zone
 pub huge-in : (s : Shape) (b : Block) → Passes (blockIn (shapeOf s) b) → hugeOfBlock b .0 ≤ s .size .0
-huge-in s (Block.Base f) h = omega (arith, h .0)
+huge-in s (Block.Run v f) h = omega (arith, h .0)
 huge-in s (Block.Whole u) h = omega (arith, h .0)
 
 -- the own CPU, here 0, matters only to a steal

@@ -21,6 +21,7 @@ use rules::Opening;
 use rules::Order;
 use rules::Pass;
 use rules::Place;
+use rules::Run;
 use rules::Taking;
 use rules::Tree;
 
@@ -43,7 +44,7 @@ pub fn frames_of(order: Order) -> u16
     ensures { λ r. ⌜ r ≡ size order ⌝ }
 {
     match order {
-        Order::Zero => 1,
+        Order::Run(run) => rules::frames_of(run),
         Order::Nine => 512,
     }
 }
@@ -98,11 +99,21 @@ fn frame_in(shape: Shape, frame: Frame) -> bool
     frame.0 < entries::huge_frames(shape.size) as u64 * CHILD_FRAMES
 }
 
+// A run begins at a multiple of its size.
+fn run_in(shape: Shape, run: Run, first: Frame) -> bool
+    ensures { λ r. ⌜ r ≡ passes (blockIn (shapeOf shape) (Block.Run run first)) ⌝ }
+{
+    if frame_in(shape, first) {
+        return first.0 % rules::frames_of(run) as u64 == 0;
+    }
+    false
+}
+
 fn block_in(shape: Shape, block: Block) -> bool
     ensures { λ r. ⌜ r ≡ passes (blockIn (shapeOf shape) block) ⌝ }
 {
     match block {
-        Block::Base(frame) => frame_in(shape, frame),
+        Block::Run { run, first } => run_in(shape, run, first),
         Block::Whole(huge) => huge_in(shape, huge),
     }
 }
@@ -247,6 +258,7 @@ pub fn taking_in(shape: Shape, cpu: u8, stage: Taking) -> bool
             child,
         } => search_in(shape, cpu, place, start, child),
         Taking::Word {
+            run: _,
             place,
             start,
             child,
@@ -258,6 +270,7 @@ pub fn taking_in(shape: Shape, cpu: u8, stage: Taking) -> bool
             false
         }
         Taking::GiveBack {
+            run: _,
             place,
             start,
             child,
@@ -273,7 +286,7 @@ pub fn giving_in(shape: Shape, stage: Giving) -> bool
 {
     match stage {
         Giving::Clear(block) => block_in(shape, block),
-        Giving::Raise(frame) => frame_in(shape, frame),
+        Giving::Raise { run, first } => run_in(shape, run, first),
         Giving::ToEntry(block) => block_in(shape, block),
         Giving::ToTree(block) => block_in(shape, block),
     }
@@ -315,7 +328,7 @@ fn huge_number(shape: Shape, block: Block) -> u32
     ensures { λ r. ⌜ r ≡ hugeOfBlock block .0 ⌝ }
 {
     match block {
-        Block::Base(frame) => (frame.0 / CHILD_FRAMES) as u32,
+        Block::Run { run: _, first } => (first.0 / CHILD_FRAMES) as u32,
         Block::Whole(huge) => huge.0,
     }
 }
@@ -337,7 +350,7 @@ pub fn first_of(block: Block) -> Frame
     ensures { λ r. ⌜ r ≡ firstOf block ⌝ }
 {
     match block {
-        Block::Base(frame) => frame,
+        Block::Run { run: _, first } => first,
         Block::Whole(huge) => rules::first_frame(huge),
     }
 }
@@ -346,7 +359,7 @@ pub fn block_frames(block: Block) -> u16
     ensures { λ r. ⌜ r ≡ sizeOf block ⌝ }
 {
     match block {
-        Block::Base(_) => 1,
+        Block::Run { run, first: _ } => rules::frames_of(run),
         Block::Whole(_) => 512,
     }
 }

@@ -3,16 +3,19 @@ use mathlib.Core.Path.{_≡_, refl, ap₂, _∙_}
 use mathlib.Core.Logic.{_≢_}
 use mathlib.Core.Bool.{true}
 use mathlib.Core.List.{[], _∷_}
-use Prim.Native.Nat.{ℕ}
+use Prim.Native.Nat.{ℕ, _<_}
+use native.Mathlib.Omega.{arith}
 use native.Mathlib.Nat.{mod-eq-of-lt}
-use borrow.Author.Tests.{eq-eqb, eqb-true}
+use borrow.Author.Tests.{eq-eqb, eqb-true, lt-ltb}
 use Rattle.laws.specs.Tests.{pick}
 use Rattle.laws.specs.Fields.{join, Fit}
 use Rattle.laws.proofs.Tests.{pick-elim, pick-yes, and-both, both-and}
 use Rattle.laws.proofs.Fields.{split-join}
 use Rattle.rules.specs.Entries.{field}
-use Rattle.rules.specs.Begin.{orderNumber, orderOf}
-use Rattle.records.specs.Types.{Order, Block, Pass, Found, Place, Taking, Giving, Creating, Opening, Record, Words, Head, Tail, Spot}
+use Rattle.rules.specs.Blocks.{exponent}
+use Rattle.rules.specs.Begin.{orderNumber, runs, runOf, orderOf}
+use Rattle.rules.proofs.Sizes.{order-again}
+use Rattle.records.specs.Types.{Run, Order, Block, Pass, Found, Place, Taking, Giving, Creating, Opening, Record, Words, Head, Tail, Spot}
 use Rattle.records.specs.Layout.{firstLayout, secondLayout, spotNowhere, treeSpot, fromSpot, passSpot, foundSpot, placeSpot, blockOrder, blockNumber}
 use Rattle.records.specs.Encoding.{fieldsHeld, fieldsSearched, fieldsBlocked, fieldsNumbered, takingFields, givingFields, creatingFields, openingFields, fieldsOf, BlockFits, SecondFits, joined, Encodes, encode}
 use Rattle.records.specs.Decoding.{headOf, tailOf, passAt, foundAt, placeAt, blockIn, takingAt, givingAt, creatingAt, openingAt, readAt, read, sameWords, decode}
@@ -25,9 +28,26 @@ abbrev tailAt : Spot → ℕ → Tail
 tailAt p h = record { tree = p .tree; base = p .base; hand = h; from = p .from }
 
 order-back : (o : Order) → orderOf (orderNumber o) ≡ o
-unfolding orderOf pick
-order-back Order.Zero = refl
-order-back Order.Nine = refl
+order-back o = order-again o .1
+
+run-back : (r : Run) → runOf (exponent r) ≡ r
+unfolding runOf pick
+run-back Run.One = refl
+run-back Run.Two = refl
+run-back Run.Four = refl
+run-back Run.Eight = refl
+run-back Run.Sixteen = refl
+run-back Run.ThirtyTwo = refl
+run-back Run.SixtyFour = refl
+
+run-below : (r : Run) → exponent r < runs
+run-below Run.One = omega arith
+run-below Run.Two = omega arith
+run-below Run.Four = omega arith
+run-below Run.Eight = omega arith
+run-below Run.Sixteen = omega arith
+run-below Run.ThirtyTwo = omega arith
+run-below Run.SixtyFour = omega arith
 
 pass-back : (p : Pass) (h : ℕ) → passAt (passSpot p .kind) (tailAt (passSpot p) h) ≡ p
 unfolding passAt passSpot pick
@@ -55,7 +75,7 @@ place-back (Place.Found (Found.Steal j t)) h = refl
 
 block-back : (b : Block) → BlockFits b → blockIn (blockOrder b) (blockNumber b) ≡ b
 unfolding blockIn blockOrder blockNumber pick
-block-back (Block.Base f) h = refl
+block-back (Block.Run r f) h = pick-yes _ _ _ (lt-ltb _ _ (run-below r)) ∙ rw (run-back r) refl
 block-back (Block.Whole i) h = rw (mod-eq-of-lt h) refl
 
 -- ---- the fields of joined words
@@ -105,16 +125,16 @@ taking-back u (Taking.Write o f h) a b = held-back 9 u o (foundSpot f) h a b ∙
 taking-back u (Taking.Steal o j) a b = held-back 10 u o (fromSpot j) 0 a b ∙ rw (order-back o) refl
 taking-back u (Taking.StealCount o j t h) a b = held-back 11 u o (foundSpot (Found.Steal j t)) h a b ∙ rw (order-back o) refl
 taking-back u (Taking.Child o p s c) a b = searched-back 12 u o p s c 0 a b ∙ rw (order-back o, place-back p 0) refl
-taking-back u (Taking.Word p s c w) a b = searched-back 13 u Order.Zero p s c w a b ∙ rw (place-back p 0) refl
-taking-back u (Taking.GiveBack p s c) a b = searched-back 14 u Order.Zero p s c 0 a b ∙ rw (place-back p 0) refl
+taking-back u (Taking.Word r p s c w) a b = searched-back 13 u (Order.Run r) p s c w a b ∙ rw (run-back r, place-back p 0) refl
+taking-back u (Taking.GiveBack r p s c) a b = searched-back 14 u (Order.Run r) p s c 0 a b ∙ rw (run-back r, place-back p 0) refl
 taking-back u (Taking.Last b) a h = blocked-back 15 u b a ∙ rw (block-back b h) refl
 taking-back u (Taking.Fail o p) a b = held-back 16 u o (placeSpot p) 0 a b ∙ rw (order-back o, place-back p 0) refl
-taking-back u Taking.NoRoom a b = held-back 17 u Order.Zero spotNowhere 0 a b
+taking-back u Taking.NoRoom a b = held-back 17 u (Order.Run Run.One) spotNowhere 0 a b
 
 giving-back : (u : ℕ) (s : Giving) → Fit firstLayout (givingFields u s .first) → SecondFits (givingFields u s .second) → read (joined (givingFields u s)) ≡ Record.Put u s
 unfolding givingFields blockOrder blockNumber readAt givingAt pick
 giving-back u (Giving.Clear b) a h = blocked-back 18 u b a ∙ rw (block-back b h) refl
-giving-back u (Giving.Raise f) a h = blocked-back 19 u (Block.Base f) a
+giving-back u (Giving.Raise r f) a h = blocked-back 19 u (Block.Run r f) a ∙ rw (run-back r) refl
 giving-back u (Giving.ToEntry b) a h = blocked-back 20 u b a ∙ rw (block-back b h) refl
 giving-back u (Giving.ToTree b) a h = blocked-back 21 u b a ∙ rw (block-back b h) refl
 
@@ -122,19 +142,19 @@ creating-back : (s : Creating) → Fit firstLayout (creatingFields s .first) →
 unfolding creatingFields readAt creatingAt pick
 creating-back (Creating.Words i) a h = numbered-back 22 i a ∙ rw (mod-eq-of-lt h) refl
 creating-back (Creating.Children i) a h = numbered-back 23 (i .0) a ∙ rw (mod-eq-of-lt h) refl
-creating-back (Creating.Trees t) a b = held-back 24 0 Order.Zero (treeSpot t) 0 a b
-creating-back (Creating.Cpus j) a b = held-back 25 j Order.Zero spotNowhere 0 a b
-creating-back Creating.Header a b = held-back 26 0 Order.Zero spotNowhere 0 a b
+creating-back (Creating.Trees t) a b = held-back 24 0 (Order.Run Run.One) (treeSpot t) 0 a b
+creating-back (Creating.Cpus j) a b = held-back 25 j (Order.Run Run.One) spotNowhere 0 a b
+creating-back Creating.Header a b = held-back 26 0 (Order.Run Run.One) spotNowhere 0 a b
 
 opening-back : (s : Opening) → Fit firstLayout (openingFields s .first) → SecondFits (openingFields s .second) → read (joined (openingFields s)) ≡ Record.Open s
 unfolding openingFields readAt openingAt pick
 opening-back (Opening.Children i) a h = numbered-back 27 (i .0) a ∙ rw (mod-eq-of-lt h) refl
-opening-back (Opening.Trees t) a b = held-back 28 0 Order.Zero (treeSpot t) 0 a b
-opening-back (Opening.Cpus j) a b = held-back 29 j Order.Zero spotNowhere 0 a b
+opening-back (Opening.Trees t) a b = held-back 28 0 (Order.Run Run.One) (treeSpot t) 0 a b
+opening-back (Opening.Cpus j) a b = held-back 29 j (Order.Run Run.One) spotNowhere 0 a b
 
 record-back : (r : Record) → Fit firstLayout (fieldsOf r .first) → SecondFits (fieldsOf r .second) → read (encode r) ≡ r
 unfolding encode fieldsOf readAt pick
-record-back Record.Finished a b = held-back 0 0 Order.Zero spotNowhere 0 a b
+record-back Record.Finished a b = held-back 0 0 (Order.Run Run.One) spotNowhere 0 a b
 record-back (Record.Get u s) a b = taking-back u s a b
 record-back (Record.Put u s) a b = giving-back u s a b
 record-back (Record.Create s) a b = creating-back s a b

@@ -5,7 +5,7 @@ use lib.Dec.{eqb, ltb}
 use Rattle.laws.specs.Tests.{pick}
 use Rattle.rules.specs.Entries.{field}
 use Rattle.rules.specs.Conversions.{frame, huge, tree}
-use Rattle.rules.specs.Begin.{orderOf}
+use Rattle.rules.specs.Begin.{runs, runOf, orderOf}
 use Rattle.records.specs.Types.{Block, Pass, Found, Place, Taking, Giving, Creating, Opening, Record, Words, Head, Tail}
 use Rattle.records.specs.Layout.{firstLayout, secondLayout}
 use Rattle.records.specs.Encoding.{encode}
@@ -38,7 +38,7 @@ unfoldable pub placeAt : ℕ → Tail → Place
 placeAt k t = pick (eqb k 1) (Place.Own (tree (t .tree))) (Place.Found (foundAt k t))
 
 unfoldable pub blockIn : ℕ → ℕ → Block
-blockIn o x = pick (eqb o 0) (Block.Base (frame x)) (Block.Whole (huge (shortIn x)))
+blockIn o x = pick (ltb o runs) (Block.Run (runOf o) (frame x)) (Block.Whole (huge (shortIn x)))
 
 unfoldable pub takingAt : Head → Tail → ℕ → Taking
 takingAt h t x =
@@ -67,16 +67,16 @@ takingAt h t x =
     (pick (eqb (h .stage) 12)
     (Taking.Child (orderOf (h .order)) (placeAt (h .kind) t) (h .start) (h .child))
     (pick (eqb (h .stage) 13)
-    (Taking.Word (placeAt (h .kind) t) (h .start) (h .child) (h .word))
+    (Taking.Word (runOf (h .order)) (placeAt (h .kind) t) (h .start) (h .child) (h .word))
     (pick (eqb (h .stage) 14)
-    (Taking.GiveBack (placeAt (h .kind) t) (h .start) (h .child))
+    (Taking.GiveBack (runOf (h .order)) (placeAt (h .kind) t) (h .start) (h .child))
     (pick (eqb (h .stage) 15) (Taking.Last (blockIn (h .order) x)) (pick (eqb (h .stage) 16) (Taking.Fail (orderOf (h .order)) (placeAt (h .kind) t)) Taking.NoRoom)))))))))))))))
 
 unfoldable pub givingAt : Head → ℕ → Giving
 givingAt h x =
     pick (eqb (h .stage) 18)
     (Giving.Clear (blockIn (h .order) x))
-    (pick (eqb (h .stage) 19) (Giving.Raise (frame x)) (pick (eqb (h .stage) 20) (Giving.ToEntry (blockIn (h .order) x)) (Giving.ToTree (blockIn (h .order) x))))
+    (pick (eqb (h .stage) 19) (Giving.Raise (runOf (h .order)) (frame x)) (pick (eqb (h .stage) 20) (Giving.ToEntry (blockIn (h .order) x)) (Giving.ToTree (blockIn (h .order) x))))
 
 unfoldable pub creatingAt : Head → Tail → ℕ → Creating
 creatingAt h t x =

@@ -4,7 +4,7 @@ use mathlib.Core.List.{List, [], _∷_}
 use Prim.Native.Nat.{ℕ, _^_, _<_}
 use Rattle.laws.specs.Fields.{join, Fit}
 use Rattle.rules.specs.Begin.{orderNumber}
-use Rattle.records.specs.Types.{Order, Block, Found, Place, Taking, Giving, Creating, Opening, Record, Words, Spot}
+use Rattle.records.specs.Types.{Run, Order, Block, Found, Place, Taking, Giving, Creating, Opening, Record, Words, Spot}
 use Rattle.records.specs.Layout.{firstLayout, secondLayout, spotNowhere, treeSpot, fromSpot, passSpot, foundSpot, placeSpot, blockOrder, blockNumber}
 
 -- the second word: fields, a block's number, or one of 32 bits
@@ -43,32 +43,32 @@ takingFields u (Taking.Write o f h) = fieldsHeld 9 u o (foundSpot f) h
 takingFields u (Taking.Steal o j) = fieldsHeld 10 u o (fromSpot j) 0
 takingFields u (Taking.StealCount o j t h) = fieldsHeld 11 u o (foundSpot (Found.Steal j t)) h
 takingFields u (Taking.Child o p s c) = fieldsSearched 12 u o p s c 0
-takingFields u (Taking.Word p s c w) = fieldsSearched 13 u Order.Zero p s c w
-takingFields u (Taking.GiveBack p s c) = fieldsSearched 14 u Order.Zero p s c 0
+takingFields u (Taking.Word r p s c w) = fieldsSearched 13 u (Order.Run r) p s c w
+takingFields u (Taking.GiveBack r p s c) = fieldsSearched 14 u (Order.Run r) p s c 0
 takingFields u (Taking.Last b) = fieldsBlocked 15 u b
 takingFields u (Taking.Fail o p) = fieldsHeld 16 u o (placeSpot p) 0
-takingFields u Taking.NoRoom = fieldsHeld 17 u Order.Zero spotNowhere 0
+takingFields u Taking.NoRoom = fieldsHeld 17 u (Order.Run Run.One) spotNowhere 0
 
 unfoldable pub givingFields : ℕ → Giving → Fields
 givingFields u (Giving.Clear b) = fieldsBlocked 18 u b
-givingFields u (Giving.Raise f) = fieldsBlocked 19 u (Block.Base f)
+givingFields u (Giving.Raise r f) = fieldsBlocked 19 u (Block.Run r f)
 givingFields u (Giving.ToEntry b) = fieldsBlocked 20 u b
 givingFields u (Giving.ToTree b) = fieldsBlocked 21 u b
 
 unfoldable pub creatingFields : Creating → Fields
 creatingFields (Creating.Words i) = fieldsNumbered 22 i
 creatingFields (Creating.Children h) = fieldsNumbered 23 (h .0)
-creatingFields (Creating.Trees t) = fieldsHeld 24 0 Order.Zero (treeSpot t) 0
-creatingFields (Creating.Cpus j) = fieldsHeld 25 j Order.Zero spotNowhere 0
-creatingFields Creating.Header = fieldsHeld 26 0 Order.Zero spotNowhere 0
+creatingFields (Creating.Trees t) = fieldsHeld 24 0 (Order.Run Run.One) (treeSpot t) 0
+creatingFields (Creating.Cpus j) = fieldsHeld 25 j (Order.Run Run.One) spotNowhere 0
+creatingFields Creating.Header = fieldsHeld 26 0 (Order.Run Run.One) spotNowhere 0
 
 unfoldable pub openingFields : Opening → Fields
 openingFields (Opening.Children h) = fieldsNumbered 27 (h .0)
-openingFields (Opening.Trees t) = fieldsHeld 28 0 Order.Zero (treeSpot t) 0
-openingFields (Opening.Cpus j) = fieldsHeld 29 j Order.Zero spotNowhere 0
+openingFields (Opening.Trees t) = fieldsHeld 28 0 (Order.Run Run.One) (treeSpot t) 0
+openingFields (Opening.Cpus j) = fieldsHeld 29 j (Order.Run Run.One) spotNowhere 0
 
 unfoldable pub fieldsOf : Record → Fields
-fieldsOf Record.Finished = fieldsHeld 0 0 Order.Zero spotNowhere 0
+fieldsOf Record.Finished = fieldsHeld 0 0 (Order.Run Run.One) spotNowhere 0
 fieldsOf (Record.Get u s) = takingFields u s
 fieldsOf (Record.Put u s) = givingFields u s
 fieldsOf (Record.Create s) = creatingFields s
@@ -87,7 +87,7 @@ joinSecond (block b) = blockNumber b
 joinSecond (short x) = x
 
 abbrev pub BlockFits : Block → Type 0
-BlockFits (Block.Base f) = f .0 < 2 ^ 64
+BlockFits (Block.Run r f) = f .0 < 2 ^ 64
 BlockFits (Block.Whole h) = h .0 < 2 ^ 32
 
 abbrev pub SecondFits : Second → Type 0

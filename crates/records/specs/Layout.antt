@@ -1,6 +1,7 @@
 -- A record's two words: their fields, and places and blocks by numbers.
 use mathlib.Core.List.{List, [], _∷_}
 use Prim.Native.Nat.{ℕ}
+use Rattle.rules.specs.Blocks.{exponent}
 use Rattle.records.specs.Types.{Tree, Block, Pass, Found, Place, Spot}
 
 -- stage (8), CPU (8), order (8), kind of place (8), start child (8), child (8), word (8), zero (8)
@@ -40,12 +41,12 @@ unfoldable pub placeSpot : Place → Spot
 placeSpot (Place.Own t) = spot 1 (t .0) 0 0
 placeSpot (Place.Found f) = foundSpot f
 
--- ---- a block: its order, and the number of its frame or huge frame
+-- ---- a block: its order, and the number of its first frame or huge frame
 
 unfoldable pub blockOrder : Block → ℕ
-blockOrder (Block.Base f) = 0
+blockOrder (Block.Run r f) = exponent r
 blockOrder (Block.Whole h) = 9
 
 unfoldable pub blockNumber : Block → ℕ
-blockNumber (Block.Base f) = f .0
+blockNumber (Block.Run r f) = f .0
 blockNumber (Block.Whole h) = h .0

@@ -2,6 +2,7 @@
 pub use Rattle.rules.specs.declared.Frame.{Frame}
 pub use Rattle.rules.specs.declared.Huge.{Huge}
 pub use Rattle.rules.specs.declared.Tree.{Tree}
+pub use Rattle.rules.specs.declared.Run.{Run}
 pub use Rattle.rules.specs.declared.Order.{Order}
 pub use Rattle.rules.specs.declared.Block.{Block}
 pub use Rattle.rules.specs.declared.Pass.{Pass}

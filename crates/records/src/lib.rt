@@ -19,6 +19,7 @@ use rules::Order;
 use rules::Pass;
 use rules::Place;
 use rules::Record;
+use rules::Run;
 use rules::Taking;
 use rules::Tree;
 
@@ -275,11 +276,14 @@ fn place_at(kind: u8, tail: Tail) -> Place
     Place::Found(found_at(kind, tail))
 }
 
+// Orders 0 to 6.
+const RUNS: u8 = 7;
+
 fn order_number(order: Order) -> u8
     ensures { λ r. ⌜ r ≡ orderNumber order ⌝ }
 {
     match order {
-        Order::Zero => 0,
+        Order::Run(run) => rules::order_of(run),
         Order::Nine => 9,
     }
 }
@@ -287,8 +291,8 @@ fn order_number(order: Order) -> u8
 fn order_at(order: u8) -> Order
     ensures { λ r. ⌜ r ≡ orderOf order ⌝ }
 {
-    if order == 0 {
-        return Order::Zero;
+    if order < RUNS {
+        return Order::Run(rules::run_of(order as u64));
     }
     Order::Nine
 }
@@ -297,7 +301,7 @@ fn block_order(block: Block) -> u8
     ensures { λ r. ⌜ r ≡ blockOrder block ⌝ }
 {
     match block {
-        Block::Base(_) => 0,
+        Block::Run { run, first: _ } => rules::order_of(run),
         Block::Whole(_) => 9,
     }
 }
@@ -306,7 +310,7 @@ fn block_number(block: Block) -> u64
     ensures { λ r. ⌜ (r ≡ blockNumber block) × BlockFits block ⌝ }
 {
     match block {
-        Block::Base(frame) => frame.0,
+        Block::Run { run: _, first } => first.0,
         Block::Whole(huge) => huge.0 as u64,
     }
 }
@@ -314,8 +318,11 @@ fn block_number(block: Block) -> u64
 fn block_at(order: u8, second: u64) -> Block
     ensures { λ r. ⌜ r ≡ blockIn order second ⌝ }
 {
-    if order == 0 {
-        return Block::Base(Frame(second));
+    if order < RUNS {
+        return Block::Run {
+            run: rules::run_of(order as u64),
+            first: Frame(second),
+        };
     }
     Block::Whole(Huge(short(second)))
 }
@@ -384,7 +391,7 @@ fn searched(stage: u8, cpu: u8, order: Order, place: Place, start: u8, child: u8
     }
 }
 
-// A stage on a block: the second word is its frame, or its huge frame.
+// A stage on a block: the second word is its first frame, or its huge frame.
 fn blocked(stage: u8, cpu: u8, block: Block) -> Words
     ensures { λ r. ⌜ Encodes (fieldsBlocked stage cpu block) r ⌝ }
 {
@@ -437,19 +444,21 @@ fn encode_taking(cpu: u8, stage: Taking) -> Words
             child,
         } => searched(12, cpu, order, place, start, child, 0),
         Taking::Word {
+            run,
             place,
             start,
             child,
             word,
-        } => searched(13, cpu, Order::Zero, place, start, child, word),
+        } => searched(13, cpu, Order::Run(run), place, start, child, word),
         Taking::GiveBack {
+            run,
             place,
             start,
             child,
-        } => searched(14, cpu, Order::Zero, place, start, child, 0),
+        } => searched(14, cpu, Order::Run(run), place, start, child, 0),
         Taking::Last(block) => blocked(15, cpu, block),
         Taking::Fail { order, place } => held(16, cpu, order, place_spot(place), 0),
-        Taking::NoRoom => held(17, cpu, Order::Zero, nowhere(), 0),
+        Taking::NoRoom => held(17, cpu, Order::Run(Run::One), nowhere(), 0),
     }
 }
 
@@ -458,7 +467,7 @@ fn encode_giving(cpu: u8, stage: Giving) -> Words
 {
     match stage {
         Giving::Clear(block) => blocked(18, cpu, block),
-        Giving::Raise(frame) => blocked(19, cpu, Block::Base(frame)),
+        Giving::Raise { run, first } => blocked(19, cpu, Block::Run { run, first }),
         Giving::ToEntry(block) => blocked(20, cpu, block),
         Giving::ToTree(block) => blocked(21, cpu, block),
     }
@@ -470,9 +479,9 @@ fn encode_creating(stage: Creating) -> Words
     match stage {
         Creating::Words(at) => numbered(22, at),
         Creating::Children(huge) => numbered(23, huge.0),
-        Creating::Trees(tree) => held(24, 0, Order::Zero, tree_spot(tree), 0),
-        Creating::Cpus(cpu) => held(25, cpu, Order::Zero, nowhere(), 0),
-        Creating::Header => held(26, 0, Order::Zero, nowhere(), 0),
+        Creating::Trees(tree) => held(24, 0, Order::Run(Run::One), tree_spot(tree), 0),
+        Creating::Cpus(cpu) => held(25, cpu, Order::Run(Run::One), nowhere(), 0),
+        Creating::Header => held(26, 0, Order::Run(Run::One), nowhere(), 0),
     }
 }
 
@@ -481,8 +490,8 @@ fn encode_opening(stage: Opening) -> Words
 {
     match stage {
         Opening::Children(huge) => numbered(27, huge.0),
-        Opening::Trees(tree) => held(28, 0, Order::Zero, tree_spot(tree), 0),
-        Opening::Cpus(cpu) => held(29, cpu, Order::Zero, nowhere(), 0),
+        Opening::Trees(tree) => held(28, 0, Order::Run(Run::One), tree_spot(tree), 0),
+        Opening::Cpus(cpu) => held(29, cpu, Order::Run(Run::One), nowhere(), 0),
     }
 }
 
@@ -491,7 +500,7 @@ pub fn encode(rec: Record) -> Words
     ensures { λ r. ⌜ (r ≡ encode rec) × (decode r ≡ rec) ⌝ }
 {
     match rec {
-        Record::Finished => held(0, 0, Order::Zero, nowhere(), 0),
+        Record::Finished => held(0, 0, Order::Run(Run::One), nowhere(), 0),
         Record::Get { cpu, stage } => encode_taking(cpu, stage),
         Record::Put { cpu, stage } => encode_giving(cpu, stage),
         Record::Create(stage) => encode_creating(stage),
@@ -557,12 +566,14 @@ fn taking_at(head: Head, second: u64) -> Taking
             child: head.child,
         },
         13 => Taking::Word {
+            run: rules::run_of(head.order as u64),
             place: place_at(head.kind, tail),
             start: head.start,
             child: head.child,
             word: head.word,
         },
         14 => Taking::GiveBack {
+            run: rules::run_of(head.order as u64),
             place: place_at(head.kind, tail),
             start: head.start,
             child: head.child,
@@ -582,7 +593,10 @@ fn giving_at(head: Head, second: u64) -> Giving
     let stage = head.stage;
     match stage {
         18 => Giving::Clear(block_at(head.order, second)),
-        19 => Giving::Raise(Frame(second)),
+        19 => Giving::Raise {
+            run: rules::run_of(head.order as u64),
+            first: Frame(second),
+        },
         20 => Giving::ToEntry(block_at(head.order, second)),
         _ => Giving::ToTree(block_at(head.order, second)),
     }

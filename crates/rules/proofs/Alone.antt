@@ -97,8 +97,8 @@ module _ (g : Shape) (j : ℕ) (o : Order) (z : Zone) where
   So (Taking.Steal q i) = Trees (treesOf g) × Gone i
   So (Taking.StealCount q i t h) = Trees (treesOf g) × Gone (suc i)
   So (Taking.Child q p s c) = Knows p × Passed (placeTree p .0) s c
-  So (Taking.Word p s c w) = Knows p × Passed (placeTree p .0) s c × Full (placeTree p .0) c w
-  So (Taking.GiveBack p s c) = Knows p × Passed (placeTree p .0) s c × ShortAt (placeTree p .0) c
+  So (Taking.Word v p s c w) = Knows p × Passed (placeTree p .0) s c × Full (placeTree p .0) c w
+  So (Taking.GiveBack v p s c) = Knows p × Passed (placeTree p .0) s c × ShortAt (placeTree p .0) c
   So (Taking.Last b) = Unit {0}
   So (Taking.Fail q p) = Knows p × Spent p
   So Taking.NoRoom = Trees (treesOf g) × Gone (g .cpus)

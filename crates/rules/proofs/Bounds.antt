@@ -1,12 +1,12 @@
 -- The step bounds, by the measure that falls.
 use mathlib.Core.Path.{_≡_, refl, ap, subst}
-use mathlib.Core.Bool.{false}
+use mathlib.Core.Bool.{false, not}
 use mathlib.Core.List.{[]}
-use Prim.Native.Nat.{ℕ, zero, suc, _+_, _-_, _*_, _≤_, _<_}
+use Prim.Native.Nat.{ℕ, zero, suc, _+_, _-_, _*_, _%_, _≤_, _<_}
 use native.Mathlib.Omega.{arith}
 use lib.Dec.{eqb, leb}
 use lib.ListN.{getD, length-set}
-use borrow.Author.Tests.{leb-false}
+use borrow.Author.Tests.{eqb-true, leb-false, not-false}
 use Rattle.laws.specs.Tests.{passes, Passes}
 use Rattle.laws.proofs.Tests.{pick-elim, true-false, all-passed}
 use Rattle.rules.specs.Types.{Frame, Order, Header, Record, Answer}
@@ -17,7 +17,7 @@ use Rattle.rules.specs.Zone.{Zone, headerOf, headerHuge, shapeOf, Store,
 use Rattle.rules.specs.Plan.{Plan, carried}
 use Rattle.rules.specs.Checks.{notOpen, isMalformed}
 use Rattle.rules.specs.Ranges.{stepRange, takingIn, givingIn, blockIn}
-use Rattle.rules.specs.Blocks.{blockAt}
+use Rattle.rules.specs.Blocks.{size, blockAt}
 use Rattle.rules.specs.Begin.{orderOf, beginGet, beginPut}
 use Rattle.rules.specs.Step.{act, step, ran, follow, after, mostGet, mostPut, searchSteps}
 use Rattle.rules.specs.Bounds.{Falls, Ends, left, takingLeft, givingLeft, ownRank, among, Bounds}
@@ -61,16 +61,17 @@ module _ (z : Zone) where
       let e : leb (shapeOf z .cpus) cpu ≡ false = search in
       ((leb-false _ _ e, tt), omega (arith, leb-false (shapeOf z .cpus) cpu e)))
 
-  block-in : (k : Order) (f : Frame) → f .0 < shapeOf z .huge * 512 → Passes (blockIn (shapeOf z) (blockAt k f))
-  block-in Order.Zero f h = (h, tt)
-  block-in Order.Nine f h = (omega arith, tt)
+  block-in : (k : Order) (f : Frame) → f .0 < shapeOf z .huge * 512 → f .0 % size k ≡ 0 → Passes (blockIn (shapeOf z) (blockAt k f))
+  block-in (Order.Run v) f h e = (h, (e, tt))
+  block-in Order.Nine f h e = (omega arith, tt)
 
   put-begun : (cpu : ℕ) (f : Frame) (o : ℕ) → Falls (shapeOf z) mostPut (beginPut z cpu f o .answer)
   unfolding beginPut stepRange givingIn left givingLeft
   put-begun cpu f o = guarded-elim (λ p. Falls (shapeOf z) mostPut (p .answer)) _ _ (tt, (tt, (tt, (tt, (tt, (tt, (tt, (tt, tt)))))))) (λ n.
       let e : leb (shapeOf z .cpus) cpu ≡ false = search in
       let h : leb (shapeOf z .huge * childFrames) (f .0) ≡ false = search in
-      ((leb-false _ _ e, block-in (orderOf o) f (leb-false _ _ h)), omega arith))
+      let a : not (eqb (f .0 % size (orderOf o)) 0) ≡ false = search in
+      ((leb-false _ _ e, block-in (orderOf o) f (leb-false _ _ h) (eqb-true _ _ (not-false _ a))), omega arith))
 
 -- ---- a sequence of steps
 

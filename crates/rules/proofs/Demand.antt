@@ -9,17 +9,16 @@ use native.Mathlib.Decide.{decLt}
 use lib.Dec.{leb}
 use lib.ListN.{length, replicate}
 use borrow.Author.Tests.{eq-eqb, lt-leb}
-use Rattle.laws.specs.Tests.{pick}
 use Rattle.laws.specs.Sum.{sumL}
 use Rattle.laws.proofs.Tests.{pick-elim}
-use Rattle.rules.specs.Types.{Block, Record, Answer}
+use Rattle.rules.specs.Types.{Run, Order, Block, Record, Answer}
 use Rattle.rules.specs.Numbers.{childFrames, childWords, mostHuge, mostCpus, format1, Shape, treesOf}
 use Rattle.rules.specs.Conversions.{frame}
 use Rattle.rules.specs.Blocks.{size, sizeOf, firstOf}
 use Rattle.rules.specs.Answers.{number, Next, ends, goesOn, nextOf, byNext}
 use Rattle.rules.specs.Zone.{Zone, headerOf, headerHuge, shaped, shapeOf}
 use Rattle.rules.specs.Plan.{Mark, plain, takes, clears, Plan, Refusal, guarded}
-use Rattle.rules.specs.Begin.{orderNumber, isOrder, orderOf, badCpu, badOrder, badFrame, misaligned, beginGet, beginPut}
+use Rattle.rules.specs.Begin.{orderNumber, orderOf, badCpu, badOrder, badFrame, misaligned, beginGet, beginPut}
 use Rattle.rules.specs.Step.{after}
 use Rattle.rules.specs.Open.{openStep, settled, closeSound, closeZone}
 use Rattle.rules.specs.Fresh.{Fitting}
@@ -29,7 +28,8 @@ use Rattle.rules.proofs.Guards.{guarded-elim}
 use Rattle.rules.proofs.Ways.{guarded-none}
 use Rattle.rules.proofs.Own.{owned-once, owned-survived}
 use Rattle.rules.proofs.Shares.{baseOf, wholeOf}
-use Rattle.rules.proofs.Invariant.{Up}
+use Rattle.rules.proofs.Sizes.{order-again}
+use Rattle.rules.proofs.Invariant.{BlockIn, Up}
 use Rattle.rules.proofs.Readings.{shape-is, open-skips}
 use Rattle.rules.proofs.Phases.{lost-told, still, down-huge}
 use Rattle.rules.proofs.Turns.{Goes, first-goes, later-goes, op-kept, in-table, stepped, as-many, op-huge}
@@ -50,7 +50,7 @@ module _ (n : ℕ) (s : State) (h : Holds n s) where
 
   apart : (i j f : ℕ) → i < j → j < length (s .held) → covers (heldAt s i) f + covers (heldAt s j) f ≤ 1
   apart i j f a b =
-      let t = two-of (λ b. covers b f) (s .held) i j (Block.Base (frame 0)) a b in
+      let t = two-of (λ b. covers b f) (s .held) i j (Block.Run Run.One (frame 0)) a b in
       elim (decLt f (childFrames * n)) [
         | yes l ↦ omega (arith, t, covered-is (s .held) f, once f l)
         | no m ↦ omega (arith, t, covered-out n (s .held) f (h .inside) (omega arith))
@@ -100,15 +100,9 @@ module _ (n : ℕ) (s : State) (h : Holds n s) where
       subst Q (sym (open-skips n (s .zone) (s .cpus) (s .held) (s .lost) (in-phase n s h ready e) (badCpu (s .zone) j ∷ (badOrder o ∷ [])) _)) (guarded-elim Q (badCpu (s .zone) j ∷ (badOrder o ∷ [])) _ (inr (inl refl), (inr (inr refl), tt)) (λ m. inl refl))
 
   -- a held block passes every check of a put but the CPU's
-  orders : (b : Block) → isOrder (orderNumber (orderOfBlock b)) ≡ true
-  unfolding isOrder pick
-  orders (Block.Base f) = refl
-  orders (Block.Whole x) = refl
-
-  aligned : (b : Block) → firstOf b .0 % size (orderOf (orderNumber (orderOfBlock b))) ≡ 0
-  unfolding orderOf pick
-  aligned (Block.Base f) = omega arith
-  aligned (Block.Whole x) = omega arith
+  aligned : (b : Block) → BlockIn n b → firstOf b .0 % size (orderOf (orderNumber (orderOfBlock b))) ≡ 0
+  aligned (Block.Run v f) i = rw (order-again (Order.Run v) .1) (i .1)
+  aligned (Block.Whole x) i = rw (order-again Order.Nine .1) (omega arith)
 
   put-small : (j i : ℕ) → Called s (put j i) → (number (planned s (put j i) .answer) ≡ 1) ⊎ ((number (planned s (put j i) .answer) ≡ 7) × (next s (call (put j i)) .held ≡ s .held))
   unfolding next planned answeredBy beginPut guarded
@@ -120,7 +114,7 @@ module _ (n : ℕ) (s : State) (h : Holds n s) where
       let Q : Plan → Type 0 = λ (p : Plan). (number (p .answer) ≡ 1) ⊎ ((number (p .answer) ≡ 7) × (answeredBy (made (after (s .zone) p) (s .cpus) (s .phase) (s .held) (s .lost)) (put j i) (p .answer) .held ≡ s .held)) in
       let far : leb (shapeOf (s .zone) .huge * childFrames) (firstOf b .0) ≡ false = lt-leb (shapeOf (s .zone) .huge * childFrames) (firstOf b .0) (rw (ap (λ (g : Shape). g .huge) (shape-is n (s .zone) (s .cpus) (s .held) (s .lost) u)) (omega (arith, block-some b, block-ends n b (inside-at n (s .held) i m (h .inside))))) in
       subst Q (sym (open-skips n (s .zone) (s .cpus) (s .held) (s .lost) u (badCpu (s .zone) j ∷ l) _)) (pick-elim Q (badCpu (s .zone) j .test) (λ c. inr (refl, refl)) (λ c.
-      subst Q (sym (guarded-none l _ (ap not (orders b), (far, (ap not (eq-eqb _ _ (aligned b)), tt))))) (inl refl)))
+      subst Q (sym (guarded-none l _ (ap not (order-again (orderOfBlock b) .0), (far, (ap not (eq-eqb _ _ (aligned b (inside-at n (s .held) i m (h .inside)))), tt))))) (inl refl)))
 
   first-small : Called s openFirst → number (planned s openFirst .answer) ≡ 1
   unfolding planned

@@ -10,7 +10,7 @@ use lib.Dec.{eqb, leb, ltb}
 use borrow.Author.Tests.{eqb-true, eqb-false, leb-true, ltb-true, ltb-false, lt-ltb, le-ltb}
 use Rattle.laws.specs.Tests.{pick, Passes}
 use Rattle.laws.proofs.Tests.{pick-elim, pick-yes, pick-no, and-both, passes-left, passes-right, passes-both}
-use Rattle.rules.specs.Types.{Tree, Order, Block, Pass, Found, Place, Taking, Giving, CpuEntry}
+use Rattle.rules.specs.Types.{Tree, Run, Order, Block, Pass, Found, Place, Taking, Giving, CpuEntry}
 use Rattle.rules.specs.Numbers.{childWords, Shape, perTree, treesOf, childrenOf, capacity}
 use Rattle.rules.specs.Conversions.{tree, huge}
 use Rattle.rules.specs.Blocks.{size, frameAt, treeOfBlock}
@@ -22,7 +22,7 @@ use Rattle.rules.specs.Give.{put, clear, give}
 use Rattle.rules.specs.Step.{searchSteps}
 use Rattle.rules.specs.Bounds.{passRank, stealRank, ownRank, placeRank, toCome, takingLeft, givingLeft, left, Falls, at}
 use Rattle.rules.proofs.Guards.{Answers, took-answer, bit-answer, gave-answer}
-use Rattle.rules.proofs.Lower.{taken-at}
+use Rattle.rules.proofs.Sizes.{taken-run, run-frame}
 use Rattle.rules.proofs.Shapes.{kids-some, kids-most, child-in, some-tree}
 
 -- one more, if it is the one to leave out
@@ -169,24 +169,24 @@ module _ (g : Shape) (k+ : 0 < perTree g) (n+ : 0 < g .huge) (cpu : ℕ) (l : cp
   child-falls : (o : Order) (p : Place) (s c x : ℕ) → Passes (placeIn g cpu p) → s < childrenOf g (placeTree p .0) → c < childrenOf g (placeTree p .0)
       → Falls g (takingLeft g (Taking.Child o p s c)) (searchChild g cpu o p s c x .answer)
   unfolding searchChild takingIn takingLeft
-  child-falls Order.Zero p s c x h v w =
-      let m = to-come (placeTree p .0) s c v w in
-      took-answer (Falls g _) tt _ _ _ _ (goes (Taking.Word p s c 0) _ (passes-both (placeIn g cpu p) _ h (v, (w, (omega arith, tt))), omega arith)) (next-falls Order.Zero p s c _ h v w (omega arith) (omega arith))
+  child-falls (Order.Run v) p s c x h u w =
+      let m = to-come (placeTree p .0) s c u w in
+      took-answer (Falls g _) tt _ _ _ _ (goes (Taking.Word v p s c 0) _ (passes-both (placeIn g cpu p) _ h (u, (w, (omega arith, tt))), omega arith)) (next-falls (Order.Run v) p s c _ h u w (omega arith) (omega arith))
   child-falls Order.Nine p s c x h v w =
       let m = to-come (placeTree p .0) s c v w in
       took-answer (Falls g _) tt _ _ _ _ (goes (Taking.Last (Block.Whole (huge (placeTree p .0 * perTree g + c)))) _ ((child-in g k+ (placeTree p .0) c w, tt), omega arith)) (next-falls Order.Nine p s c _ h v w (omega arith) (omega arith))
 
-  word-falls : (p : Place) (s c w x : ℕ) → Passes (placeIn g cpu p) → s < childrenOf g (placeTree p .0) → c < childrenOf g (placeTree p .0) → w < childWords
-      → Falls g (takingLeft g (Taking.Word p s c w)) (searchWord g cpu p s c w x .answer)
+  word-falls : (v : Run) (p : Place) (s c w x : ℕ) → Passes (placeIn g cpu p) → s < childrenOf g (placeTree p .0) → c < childrenOf g (placeTree p .0) → w < childWords
+      → Falls g (takingLeft g (Taking.Word v p s c w)) (searchWord g cpu v p s c w x .answer)
   unfolding searchWord takingIn takingLeft
-  word-falls p s c w x h u v k =
-      let m = to-come (placeTree p .0) s c u v in
-      let d = child-in g k+ (placeTree p .0) c v in
+  word-falls v p s c w x h u y k =
+      let m = to-come (placeTree p .0) s c u y in
+      let d = child-in g k+ (placeTree p .0) c y in
       bit-answer (Falls g _) tt _ _ _ _
-      (λ b e. goes (Taking.Last (Block.Base (frameAt g (placeTree p) c w b))) _ ((omega (arith, taken-at 1 x b e), tt), omega arith))
+      (λ b e. goes (Taking.Last (Block.Run v (frameAt g (placeTree p) c w b))) _ (let f = run-frame v (g .huge) _ w b d k (taken-run v x b e) in (f .0, (f .1, tt)), omega arith))
       (pick-elim (Falls g _) (ltb (suc w) childWords)
-      (λ b. goes (Taking.Word p s c (suc w)) _ (passes-both (placeIn g cpu p) _ h (u, (v, (ltb-true _ _ b, tt))), omega arith))
-      (λ b. goes (Taking.GiveBack p s c) _ (passes-both (placeIn g cpu p) _ h (u, (v, tt)), omega arith)))
+      (λ b. goes (Taking.Word v p s c (suc w)) _ (passes-both (placeIn g cpu p) _ h (u, (y, (ltb-true _ _ b, tt))), omega arith))
+      (λ b. goes (Taking.GiveBack v p s c) _ (passes-both (placeIn g cpu p) _ h (u, (y, tt)), omega arith)))
 
   -- by the own entry, if it holds tree t
   own-holds : (m : ℕ) (t : Tree) (f : ℕ → ℕ → Made CpuEntry) (a : Made CpuEntry) → Falls g m (a .answer)
@@ -229,11 +229,11 @@ module _ (g : Shape) (k+ : 0 < perTree g) (n+ : 0 < g .huge) (cpu : ℕ) (l : cp
       (λ c. goes (Taking.Unreserve o (Place.Found (Found.Steal j t)) (x + k)) _ ((h .0, (h .1 .0, (h .1 .1 .0, (omega arith, tt)))), omega arith)))
       (λ b. tt)
   take-falls (Taking.Child o p s c) h = let a = passes-right (placeIn g cpu p) _ h in λ x. child-falls o p s c x (passes-left (placeIn g cpu p) _ h) (a .0) (a .1 .0)
-  take-falls (Taking.Word p s c w) h = let a = passes-right (placeIn g cpu p) _ h in λ x. word-falls p s c w x (passes-left (placeIn g cpu p) _ h) (a .0) (a .1 .0) (a .1 .1 .0)
-  take-falls (Taking.GiveBack p s c) h =
+  take-falls (Taking.Word v p s c w) h = let a = passes-right (placeIn g cpu p) _ h in λ x. word-falls v p s c w x (passes-left (placeIn g cpu p) _ h) (a .0) (a .1 .0) (a .1 .1 .0)
+  take-falls (Taking.GiveBack v p s c) h =
       let a = passes-right (placeIn g cpu p) _ h in
       let m = to-come (placeTree p .0) s c (a .0) (a .1 .0) in
-      λ x. gave-answer (Falls g _) tt tt _ _ _ (next-falls Order.Zero p s c _ (passes-left (placeIn g cpu p) _ h) (a .0) (a .1 .0) (omega arith) (omega arith))
+      λ x. gave-answer (Falls g _) tt tt _ _ _ (next-falls (Order.Run v) p s c _ (passes-left (placeIn g cpu p) _ h) (a .0) (a .1 .0) (omega arith) (omega arith))
   take-falls (Taking.Last b) h = own-holds _ (treeOfBlock g b) _ _ tt (λ s k u v. tt)
   take-falls (Taking.Fail o p) h = λ r k e. goes (Taking.Release o p) _ (h, omega arith)
   take-falls Taking.NoRoom h = tt
@@ -244,8 +244,8 @@ module _ (g : Shape) (k+ : 0 < perTree g) (n+ : 0 < g .huge) (cpu : ℕ) (l : cp
 
   pub give-falls : (s : Giving) → Passes (givingIn g s) → Answers g (Falls g (givingLeft g s)) (give g cpu s)
   unfolding give clear givingIn givingLeft
-  give-falls (Giving.Clear (Block.Base f)) h = λ x. gave-answer (Falls g 3) tt tt _ _ _ (puts (Giving.Raise f) 3 h (omega arith))
+  give-falls (Giving.Clear (Block.Run v f)) h = λ x. gave-answer (Falls g 3) tt tt _ _ _ (puts (Giving.Raise v f) 3 h (omega arith))
   give-falls (Giving.Clear (Block.Whole b)) h = λ x. gave-answer (Falls g 3) tt tt _ _ _ (puts (Giving.ToEntry (Block.Whole b)) 3 h (omega arith))
-  give-falls (Giving.Raise f) h = λ x. gave-answer (Falls g 2) tt tt _ _ _ (puts (Giving.ToEntry (Block.Base f)) 2 h (omega arith))
+  give-falls (Giving.Raise v f) h = λ x. gave-answer (Falls g 2) tt tt _ _ _ (puts (Giving.ToEntry (Block.Run v f)) 2 h (omega arith))
   give-falls (Giving.ToEntry b) h = own-holds 1 (treeOfBlock g b) _ _ (puts (Giving.ToTree b) 1 h (omega arith)) (λ s k u v. tt)
   give-falls (Giving.ToTree b) h = λ r k e. tt

@@ -15,10 +15,10 @@ use Rattle.laws.proofs.Tests.{pick-elim, and-both, passes-left, passes-right, p
 use Rattle.laws.specs.Words.{ones, lowest}
 use Rattle.laws.proofs.Words.{lowest-free}
 use Rattle.laws.proofs.Sum.{at-same, at-add, at-none}
-use Rattle.rules.specs.Types.{Tree, Order, Block, ChildEntry, CpuEntry, Took, Bit, Pass, Found, Place, Taking, Record, Answer}
+use Rattle.rules.specs.Types.{Tree, Run, Order, Block, ChildEntry, CpuEntry, Took, Bit, Pass, Found, Place, Taking, Record, Answer}
 use Rattle.rules.specs.Numbers.{childFrames, childWords, wordBits, Shape, perTree, treesOf, childrenOf, capacity}
 use Rattle.rules.specs.Conversions.{tree, huge, frame}
-use Rattle.rules.specs.Blocks.{size, frameAt, firstOf, blockAt, treeOfBlock, childOfBlock, hugeOfBlock}
+use Rattle.rules.specs.Blocks.{runSize, size, frameAt, firstOf, blockAt, treeOfBlock, childOfBlock, hugeOfBlock}
 use Rattle.rules.specs.Entries.{holdsChecks}
 use Rattle.rules.specs.Lower.{Lowered, told, changed, countWord, flaggedWord, takeRun}
 use Rattle.rules.specs.Zone.{Zone, Store, nothing, shaped}
@@ -38,6 +38,7 @@ use Rattle.rules.proofs.Fields.{count-fits, Says, counts, flagged, says
 use Rattle.rules.proofs.Stages.{block-huge}
 use Rattle.rules.proofs.Readings.{flag-small, room, reserved, under-way, read-cpu, read-tree, read-child, read-word}
 use Rattle.rules.proofs.Guards.{look-plan, absent-plan, holds-plan, tree-look-plan, tally-plan, taken-plan, passed-plan, given-plan, bit-plan, full-plan}
+use Rattle.rules.proofs.Sizes.{not-below, run-some, run-at, run-frame}
 use Rattle.rules.proofs.Lower.{claim-counts, claim-flagged, huge-counts, huge-flagged, give-counts, take-run, take-none}
 
 -- the stage at a next place: a try, a steal, or No room
@@ -390,26 +391,26 @@ module _ (n : ℕ) (z : Zone) (cs : ℕ → Cpu) (held lost : List Block) (u : U
   child-is : (i : ℕ) → i < n → Says (getD (z .children) i 0)
   child-is i h = says-entry (getD (z .children) i 0) (u .lower .formed i h)
 
-  zero-stage : (p : Place) (b c : ℕ) → Stage (Taking.Child Order.Zero p b c)
+  run-stage : (v : Run) (p : Place) (b c : ℕ) → Stage (Taking.Child (Order.Run v) p b c)
   unfolding take searchChild lowOf owed reserves takingIn
-  zero-stage p b c e =
-      let s : Taking = Taking.Child Order.Zero p b c in
+  run-stage v p b c e =
+      let s : Taking = Taking.Child (Order.Run v) p b c in
       let h : Passes (placeIn g j p) = passes-left (placeIn g j p) _ (proper s e .0) in
       let q = passes-right (placeIn g j p) _ (proper s e .0) in
       let t : Tree = placeTree p in
       let i : ℕ = t .0 * perTree g + c in
       let x : ℕ = getD (z .children) i 0 in
-      let Q : Lowered Took → Type 0 = λ y. Kept s e (toChild g t c (onTook y (get g j (Taking.Word p b c 0)) plain (nextChild g j Order.Zero p b c))) in
-      let pass : Q (told Took.Passed) = rw (passed-plan g t c (get g j (Taking.Word p b c 0)) plain (nextChild g j Order.Zero p b c)) (passes-child Order.Zero p b c e) in
+      let Q : Lowered Took → Type 0 = λ y. Kept s e (toChild g t c (onTook y (get g j (Taking.Word v p b c 0)) plain (nextChild g j (Order.Run v) p b c))) in
+      let pass : Q (told Took.Passed) = rw (passed-plan g t c (get g j (Taking.Word v p b c 0)) plain (nextChild g j (Order.Run v) p b c)) (passes-child (Order.Run v) p b c e) in
       read-child n z cs held lost u (Kept s e) t c _ (q .1 .0) (elim (child-is i (child-in g (omega arith) (t .0) c (q .1 .0))) [
-        | counts k a ↦ subst Q (sym (claim-counts 1 x k a)) (pick-elim Q (leb 1 k)
-            (λ d. let m : 1 ≤ k = leb-true _ _ d in
+        | counts k a ↦ subst Q (sym (claim-counts (runSize v) x k a)) (pick-elim Q (leb (runSize v) k)
+            (λ d. let m : runSize v ≤ k = leb-true _ _ d in
             let f : k ≤ childFrames = count-fits x k a in
-            rw (taken-plan g t c (countWord (k - 1)) (get g j (Taking.Word p b c 0)) plain (nextChild g j Order.Zero p b c))
-            (count-kept n z cs held lost u j l _ e (t .0) c k (k - 1) _ (fine-goes s e _ (Taking.Word p b c 0) (passes-both (placeIn g j p) _ h (q .0, (q .1 .0, (omega arith, tt)))) tt (λ k y. y) refl) (q .1 .0) a (omega arith)
-            (λ y. omega (arith, split-at i k (k - 1) 1 y (omega arith))) (λ y. refl) (λ y. refl) (wanted s e)))
+            rw (taken-plan g t c (countWord (k - runSize v)) (get g j (Taking.Word v p b c 0)) plain (nextChild g j (Order.Run v) p b c))
+            (count-kept n z cs held lost u j l _ e (t .0) c k (k - runSize v) _ (fine-goes s e _ (Taking.Word v p b c 0) (passes-both (placeIn g j p) _ h (q .0, (q .1 .0, (omega arith, tt)))) tt (λ k y. y) refl) (q .1 .0) a (omega arith)
+            (λ y. omega (arith, split-at i k (k - runSize v) (runSize v) y (omega arith))) (λ y. refl) (λ y. refl) (wanted s e)))
             (λ d. pass))
-        | flagged a ↦ subst Q (sym (claim-flagged 1 x a)) pass
+        | flagged a ↦ subst Q (sym (claim-flagged (runSize v) x a)) pass
       ])
 
   nine-stage : (p : Place) (b c : ℕ) → Stage (Taking.Child Order.Nine p b c)
@@ -432,63 +433,64 @@ module _ (n : ℕ) (z : Zone) (cs : ℕ → Cpu) (held lost : List Block) (u : U
         | flagged a ↦ subst Q (sym (huge-flagged x a)) pass
       ])
 
-  word-stage : (p : Place) (b c w : ℕ) → Stage (Taking.Word p b c w)
+  word-stage : (v : Run) (p : Place) (b c w : ℕ) → Stage (Taking.Word v p b c w)
   unfolding take searchWord lowOf owed reserves takingIn
-  word-stage p b c w e =
-      let s : Taking = Taking.Word p b c w in
+  word-stage v p b c w e =
+      let s : Taking = Taking.Word v p b c w in
       let h : Passes (placeIn g j p) = passes-left (placeIn g j p) _ (proper s e .0) in
       let q = passes-right (placeIn g j p) _ (proper s e .0) in
       let t : Tree = placeTree p in
       let k : ℕ = childWords * (t .0 * perTree g) + (childWords * c + w) in
       let at-word : k ≡ childWords * (t .0 * perTree g + c) + w = omega arith in
       let x : ℕ = getD (z .words) (childWords * (t .0 * perTree g + c) + w) 0 in
-      let i : ℕ = lowest 1 wordBits x in
-      let a : ℕ → Answer = λ y. get g j (Taking.Last (Block.Base (frameAt g t c w y))) in
-      let m : ℕ → Mark = λ y. takes (Block.Base (frameAt g t c w y)) in
-      let on : Answer = pick (ltb (suc w) childWords) (get g j (Taking.Word p b c (suc w))) (get g j (Taking.GiveBack p b c)) in
+      let r : ℕ = runSize v in
+      let i : ℕ = lowest r (wordBits / r) x in
+      let a : ℕ → Answer = λ y. get g j (Taking.Last (Block.Run v (frameAt g t c w y))) in
+      let m : ℕ → Mark = λ y. takes (Block.Run v (frameAt g t c w y)) in
+      let on : Answer = pick (ltb (suc w) childWords) (get g j (Taking.Word v p b c (suc w))) (get g j (Taking.GiveBack v p b c)) in
       let Q : Lowered Bit → Type 0 = λ y. Kept s e (toWord g t (childWords * c + w) (onBit y a m on)) in
-      let found : i < wordBits → Q (changed (Bit.At (1 * i)) (x + ones 1 (1 * i))) = λ y.
-      let one : 1 * i ≡ i = omega arith in
+      let found : i < wordBits / r → Q (changed (Bit.At (r * i)) (x + ones r (r * i))) = λ y.
+      let fits = run-at v i y in
       let inside : t .0 * perTree g + c < n = child-in g (omega arith) (t .0) c (q .1 .0) in
-      rw (bit-plan g t (childWords * c + w) (1 * i) (x + ones 1 (1 * i)) a m on, at-word)
-      (bits-kept n z cs held lost u j l _ e (t .0) c w (1 * i) _ (fine-takes s e _ _ (omega (arith, q .1 .1 .0), tt) (λ k y. y)) (handed-none s e _) refl refl (q .1 .0) (q .1 .1 .0) (omega arith)
-      (lowest-free 1 wordBits x y) (λ y. zero-add _) (λ y. zero-add _) (λ y. refl) tt) in
-      read-word n z cs held lost u (Kept s e) t _ _ (omega (arith, q .1 .0, q .1 .1 .0)) (subst (λ y. Q (takeRun 1 (getD (z .words) y 0))) (sym at-word) (elim (decLt i wordBits) [
-        | yes y ↦ subst Q (sym (take-run 1 x y)) (found y)
-        | no y ↦ subst Q (sym (take-none 1 x (omega arith))) (rw (full-plan g t (childWords * c + w) a m on) (pick-elim (λ a. Kept s e (says nothing a)) (ltb (suc w) childWords)
-            (λ d. looked n z cs held lost u j l _ e _ (fine-goes s e nothing (Taking.Word p b c (suc w)) (passes-both (placeIn g j p) _ h (q .0, (q .1 .0, (ltb-true _ _ d, tt)))) tt (λ k y. y) refl) (λ x. refl) (λ x. refl) (λ x. refl) (wanted s e))
-            (λ d. looked n z cs held lost u j l _ e _ (fine-goes s e nothing (Taking.GiveBack p b c) (passes-both (placeIn g j p) _ h (q .0, (q .1 .0, tt))) tt (λ k y. y) refl) (λ x. refl) (λ x. refl) (λ x. refl) (wanted s e))))
+      rw (bit-plan g t (childWords * c + w) (r * i) (x + ones r (r * i)) a m on, at-word)
+      (bits-kept n z cs held lost u j l _ e v (t .0) c w (r * i) _ (fine-takes s e _ _ (let f = run-frame v n _ w (r * i) inside (q .1 .1 .0) fits in (f .0, (f .1, tt))) (λ k y. y)) (handed-none s e _) refl refl (q .1 .0) (q .1 .1 .0) (fits .1)
+      (lowest-free r (wordBits / r) x y) (λ y. zero-add _) (λ y. zero-add _) (λ y. refl) tt) in
+      read-word n z cs held lost u (Kept s e) t _ _ (omega (arith, q .1 .0, q .1 .1 .0)) (subst (λ y. Q (takeRun r (getD (z .words) y 0))) (sym at-word) (elim (decLt i (wordBits / r)) [
+        | yes y ↦ subst Q (sym (take-run r x y)) (found y)
+        | no y ↦ subst Q (sym (take-none r x (not-below y))) (rw (full-plan g t (childWords * c + w) a m on) (pick-elim (λ a. Kept s e (says nothing a)) (ltb (suc w) childWords)
+            (λ d. looked n z cs held lost u j l _ e _ (fine-goes s e nothing (Taking.Word v p b c (suc w)) (passes-both (placeIn g j p) _ h (q .0, (q .1 .0, (ltb-true _ _ d, tt)))) tt (λ k y. y) refl) (λ x. refl) (λ x. refl) (λ x. refl) (wanted s e))
+            (λ d. looked n z cs held lost u j l _ e _ (fine-goes s e nothing (Taking.GiveBack v p b c) (passes-both (placeIn g j p) _ h (q .0, (q .1 .0, tt))) tt (λ k y. y) refl) (λ x. refl) (λ x. refl) (λ x. refl) (wanted s e))))
       ]))
 
-  give-back-stage : (p : Place) (b c : ℕ) → Stage (Taking.GiveBack p b c)
+  give-back-stage : (v : Run) (p : Place) (b c : ℕ) → Stage (Taking.GiveBack v p b c)
   unfolding take lowOf owed reserves takingIn
-  give-back-stage p b c e =
-      let s : Taking = Taking.GiveBack p b c in
+  give-back-stage v p b c e =
+      let s : Taking = Taking.GiveBack v p b c in
       let h : Passes (placeIn g j p) = passes-left (placeIn g j p) _ (proper s e .0) in
       let q = passes-right (placeIn g j p) _ (proper s e .0) in
       let t : Tree = placeTree p in
       let i : ℕ = t .0 * perTree g + c in
       let x : ℕ = getD (z .children) i 0 in
-      let y = under-way n z cs held lost u i j (child-in g (omega arith) (t .0) c (q .1 .0)) l (omega (arith, ap (λ r. lowOf g r i) e, at-same i 1)) in
+      let y = under-way n z cs held lost u i j (runSize v) (child-in g (omega arith) (t .0) c (q .1 .0)) l (run-some v) (omega (arith, ap (λ r. lowOf g r i) e, at-same i (runSize v))) in
       let k : ℕ = y .0 in
-      let st : Store = Store.child i (countWord (k + 1)) in
-      let more : (x : ℕ) → 0 + at i (k + 1) x ≡ at i 1 x + at i k x = λ x. omega (arith, at-add i k 1 x) in
-      read-child n z cs held lost u (Kept s e) t c _ (q .1 .0) (rw (give-counts 1 x k (y .1) (y .2), given-plan g t c (countWord (k + 1)) (nextChild g j Order.Zero p b c) plain) (next-child s e (λ a. Kept s e (says st a)) Order.Zero p b c h (q .0) (q .1 .0)
-      (λ m. count-kept n z cs held lost u j l _ e (t .0) c k (k + 1) _ (fine-goes s e st (Taking.Fail Order.Zero p) m tt (λ k y. y) refl) (q .1 .0) (y .1) (y .2) more (λ y. refl) (λ y. refl) (wanted s e))
-      (λ d m. count-kept n z cs held lost u j l _ e (t .0) c k (k + 1) _ (fine-goes s e st (Taking.Child Order.Zero p b d) m tt (λ k y. y) refl) (q .1 .0) (y .1) (y .2) more (λ y. refl) (λ y. refl) (wanted s e))))
+      let st : Store = Store.child i (countWord (k + runSize v)) in
+      let more : (x : ℕ) → 0 + at i (k + runSize v) x ≡ at i (runSize v) x + at i k x = λ x. omega (arith, at-add i k (runSize v) x) in
+      read-child n z cs held lost u (Kept s e) t c _ (q .1 .0) (rw (give-counts (runSize v) x k (y .1) (y .2), given-plan g t c (countWord (k + runSize v)) (nextChild g j (Order.Run v) p b c) plain) (next-child s e (λ a. Kept s e (says st a)) (Order.Run v) p b c h (q .0) (q .1 .0)
+      (λ m. count-kept n z cs held lost u j l _ e (t .0) c k (k + runSize v) _ (fine-goes s e st (Taking.Fail (Order.Run v) p) m tt (λ k y. y) refl) (q .1 .0) (y .1) (y .2) more (λ y. refl) (λ y. refl) (wanted s e))
+      (λ d m. count-kept n z cs held lost u j l _ e (t .0) c k (k + runSize v) _ (fine-goes s e st (Taking.Child (Order.Run v) p b d) m tt (λ k y. y) refl) (q .1 .0) (y .1) (y .2) more (λ y. refl) (λ y. refl) (wanted s e))))
 
   -- ---- rule 6
 
   -- the block that was got, by its first frame and its order
   same-block : (b : Block) (o : Order) → orderOfBlock b ≡ o → blockAt o (frame (firstOf b .0)) ≡ b
-  same-block (Block.Base f) o h = rw (← h) refl
+  same-block (Block.Run v f) o h = rw (← h) refl
   same-block (Block.Whole i) o h = rw (← h) (ap (λ k. Block.Whole (huge k)) (div-whole (i .0)))
     where
       div-whole : (k : ℕ) → k * childFrames / childFrames ≡ k
       div-whole k = omega arith
 
   block-in : (b : Block) → Passes (blockIn g b) → BlockIn n b
-  block-in (Block.Base f) p = p .0
+  block-in (Block.Run v f) p = (p .0, p .1 .0)
   block-in (Block.Whole h) p = p .0
 
   fine-done : (b : Block) (e : cs j .latest ≡ Record.Get j (Taking.Last b)) (st : Store) → Good (Taking.Last b) e (says st (Answer.Done (firstOf b)))
@@ -541,10 +543,10 @@ module _ (n : ℕ) (z : Zone) (cs : ℕ → Cpu) (held lost : List Block) (u : U
   get-kept (Taking.Write o f h) = write-stage o f h
   get-kept (Taking.Steal o i) = steal-stage o i
   get-kept (Taking.StealCount o i t h) = steal-count-stage o i t h
-  get-kept (Taking.Child Order.Zero p b c) = zero-stage p b c
+  get-kept (Taking.Child (Order.Run v) p b c) = run-stage v p b c
   get-kept (Taking.Child Order.Nine p b c) = nine-stage p b c
-  get-kept (Taking.Word p b c w) = word-stage p b c w
-  get-kept (Taking.GiveBack p b c) = give-back-stage p b c
+  get-kept (Taking.Word v p b c w) = word-stage v p b c w
+  get-kept (Taking.GiveBack v p b c) = give-back-stage v p b c
   get-kept (Taking.Last b) = last-stage b
   get-kept (Taking.Fail o p) = fail-stage o p
   get-kept Taking.NoRoom = no-room-stage

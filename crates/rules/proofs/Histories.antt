@@ -7,10 +7,10 @@ use native.Mathlib.Omega.{arith}
 use native.Mathlib.Nat.{add-zero}
 use lib.ListN.{length, getD}
 use borrow.Author.Tests.{leb-false}
-use Rattle.laws.specs.Tests.{pick, Passes}
+use Rattle.laws.specs.Tests.{Passes}
 use Rattle.laws.specs.Sum.{sumL, upd}
 use Rattle.laws.proofs.Sum.{upd-at, upd-twice}
-use Rattle.rules.specs.Types.{Frame, Block, Taking, Giving, Record, Answer}
+use Rattle.rules.specs.Types.{Frame, Run, Order, Block, Taking, Giving, Record, Answer}
 use Rattle.rules.specs.Numbers.{treesOf}
 use Rattle.rules.specs.Conversions.{frame, huge}
 use Rattle.rules.specs.Blocks.{firstOf, blockAt}
@@ -22,6 +22,7 @@ use Rattle.rules.specs.Begin.{orderNumber, orderOf, badCpu, badOrder, ba
 use Rattle.rules.specs.Step.{step, after}
 use Rattle.rules.specs.Open.{openZone, openStep, closeZone}
 use Rattle.rules.specs.Events.{Begun, idle, getting, putting, Cpu, resting, taken, unlessCleared, lostBy, lostAll, Phase, ready, down, opening, State, without, Call, get, put, stepOf, close, openFirst, openLater, orderOfBlock, planned, markedBy, storedBy, handed, withCpu, cutOff, answeredBy, Event, call, cut, cutIn, afterCut, next, Called, Left, Admitted, Reach, start, then}
+use Rattle.rules.proofs.Sizes.{order-again}
 use Rattle.rules.proofs.Guards.{guarded-elim}
 use Rattle.rules.proofs.Shares.{lowOf, owed, reserves}
 use Rattle.rules.proofs.Invariant.{BlockIn, AllIn, Up}
@@ -51,7 +52,7 @@ phase-is s p e = ap (λ q. made (s .zone) (s .cpus) q (s .held) (s .lost)) e
 
 -- ---- lists of blocks
 
-pub inside-at : (n : ℕ) (l : List Block) (i : ℕ) → i < length l → AllIn n l → BlockIn n (getD l i (Block.Base (frame 0)))
+pub inside-at : (n : ℕ) (l : List Block) (i : ℕ) → i < length l → AllIn n l → BlockIn n (getD l i (Block.Run Run.One (frame 0)))
 inside-at n [] i h a = absurd (omega arith)
 inside-at n (b ∷ l) zero h a = a .0
 inside-at n (b ∷ l) (suc i) h a = inside-at n l i (omega arith) (a .1)
@@ -66,7 +67,7 @@ inside-append : (n : ℕ) (k l : List Block) → AllIn n k → AllIn n l → All
 inside-append n [] l a b = b
 inside-append n (x ∷ k) l a b = (a .0, inside-append n k l (a .1) b)
 
-without-weighs : (w : Block → ℕ) (l : List Block) (i : ℕ) → i < length l → sumL w (without l i) + sumL w (getD l i (Block.Base (frame 0)) ∷ []) ≡ sumL w l
+without-weighs : (w : Block → ℕ) (l : List Block) (i : ℕ) → i < length l → sumL w (without l i) + sumL w (getD l i (Block.Run Run.One (frame 0)) ∷ []) ≡ sumL w l
 unfolding without sumL
 without-weighs w [] i h = absurd (omega arith)
 without-weighs w (b ∷ l) zero h = omega arith
@@ -79,12 +80,11 @@ lost-still (suc n) = lost-still n
 
 -- a held block is put at the frame and order that it was got with
 block-again : (b : Block) → blockAt (orderOf (orderNumber (orderOfBlock b))) (firstOf b) ≡ b
-unfolding orderOf pick
-block-again (Block.Base f) = refl
-block-again (Block.Whole h) = ap (λ i. Block.Whole (huge i)) (omega arith)
+block-again (Block.Run v f) = rw (order-again (Order.Run v) .1) refl
+block-again (Block.Whole h) = rw (order-again Order.Nine .1) (ap (λ i. Block.Whole (huge i)) (omega arith))
 
 block-passes : (n : ℕ) (z : Zone) (b : Block) → BlockIn n b → Passes (blockIn (shaped n z) b)
-block-passes n z (Block.Base f) h = (h, tt)
+block-passes n z (Block.Run v f) h = (h .0, (h .1, tt))
 block-passes n z (Block.Whole x) h = (h, tt)
 
 -- ---- answers
@@ -134,7 +134,7 @@ module _ (n : ℕ) (z : Zone) (cs : ℕ → Cpu) (held lost : List Block) (u : U
   put-call : (j i : ℕ) → cs j ≡ resting → i < length held → Holds n (next S (call (put j i)))
   unfolding next planned answeredBy beginPut stored givingIn lowOf owed reserves unlessCleared
   put-call j i e h =
-      let b : Block = getD held i (Block.Base (frame 0)) in
+      let b : Block = getD held i (Block.Run Run.One (frame 0)) in
       let k : ℕ = orderNumber (orderOfBlock b) in
       let l : List Refusal = badCpu z j ∷ (badOrder k ∷ (badFrame z (firstOf b) ∷ (misaligned k (firstOf b) ∷ []))) in
       let Q : Plan → Type 0 = λ (p : Plan). Holds n (answeredBy (made (after z p) cs ready held lost) (put j i) (p .answer)) in

@@ -2,7 +2,7 @@
 use mathlib.Core.Path.{_≡_, refl, sym, ap, _∙_, subst}
 use mathlib.Core.Logic.{_≢_}
 use mathlib.Core.List.{List, [], _∷_, _++_}
-use Prim.Native.Nat.{ℕ, _+_, _-_, _*_, _≤_, _<_}
+use Prim.Native.Nat.{ℕ, _+_, _-_, _*_, _%_, _^_, _≤_, _<_}
 use native.Mathlib.Omega.{arith}
 use native.Mathlib.Nat.{add-zero}
 use native.Mathlib.Decide.{ℕ-discrete}
@@ -10,9 +10,10 @@ use lib.ListN.{length, getD, set, length-set}
 use Rattle.laws.specs.Sum.{sumTo, sumL, at, upd}
 use Rattle.laws.specs.Words.{bits, ones}
 use Rattle.laws.proofs.Sum.{at-same, at-none, sum-upd, sumL-append, map-upd, upd-at, upd-other, sum-add}
-use Rattle.rules.specs.Types.{Block, ChildEntry, CpuEntry, Record, Answer}
+use Rattle.rules.specs.Types.{Run, Block, ChildEntry, CpuEntry, Record, Answer}
 use Rattle.rules.specs.Numbers.{childFrames, childWords, wordBits, mostHuge, mostCpus, format1, Shape, perTree, treesOf, childrenOf, capacity}
 use Rattle.rules.specs.Conversions.{huge, frame}
+use Rattle.rules.specs.Blocks.{runSize}
 use Rattle.rules.specs.Answers.{number, Next, ends, goesOn, recordOf, nextOf, byNext}
 use Rattle.rules.specs.Entries.{headerWord, running, cpuSays, cpuWord}
 use Rattle.rules.specs.Lower.{childSays, countWord, flaggedWord}
@@ -20,6 +21,7 @@ use Rattle.rules.specs.Zone.{Zone, shaped, Store, stored, nothing}
 use Rattle.rules.specs.Plan.{Mark, plain, takes, clears, Plan, says}
 use Rattle.rules.specs.Events.{Cpu, resting, taken, unlessCleared, lostBy, handed}
 use Rattle.rules.specs.Promise.{ownedBy, most, Names}
+use Rattle.rules.proofs.Sizes.{run-some}
 use Rattle.rules.proofs.Layouts.{format1-sound}
 use Rattle.rules.proofs.Shapes.{child-in, sum-tree}
 use Rattle.rules.proofs.Shares.{baseOf, wholeOf, share, has, lowOf, owed, reserves, Wanted, want, Proper, AgreesWith, Agrees}
@@ -39,7 +41,7 @@ freeTree g cs ws t = sumTo (childrenOf g t) (λ c. freeOf cs ws (t * perTree g +
 
 -- every block of a list lies in the zone
 abbrev pub BlockIn : ℕ → Block → Type 0
-BlockIn n (Block.Base f) = f .0 < n * childFrames
+BlockIn n (Block.Run v f) = (f .0 < n * childFrames) × (f .0 % runSize v ≡ 0)
 BlockIn n (Block.Whole h) = h .0 < n
 
 abbrev pub AllIn : ℕ → List Block → Type 0
@@ -290,46 +292,46 @@ module _ (n : ℕ) (z : Zone) (cs : ℕ → Cpu) (held lost : List Block) (u : U
   abbrev frameNo : ℕ → ℕ → ℕ → ℕ → ℕ
   frameNo t c i b = (t * perTree g + c) * childFrames + i * wordBits + b
 
-  -- the taking store of a base frame
-  pub bits-kept : (t c i b : ℕ) (a : Answer) → let x : Block = Block.Base (frame (frameNo t c i b)) in
-      let p : Plan = record { store = Store.word (wordNo t c i) (getD ws₀ (wordNo t c i) 0 + ones 1 b); answer = a; mark = takes x } in
-      Fine p → handed (cs j .begun) a ≡ [] → ownedBy r ≡ [] → ownedBy (recordOf a) ≡ x ∷ [] → c < childrenOf g t → i < childWords → b + 1 ≤ wordBits → bits 1 b (getD ws₀ (wordNo t c i) 0) ≡ 0
-      → ((y : ℕ) → lowOf g (recordOf a) y + at (t * perTree g + c) 1 y ≡ lowOf g r y) → ((y : ℕ) → owed g (recordOf a) y + at t 1 y ≡ owed g r y) → ((y : ℕ) → reserves r y ≡ reserves (recordOf a) y)
+  -- the taking store of a run
+  pub bits-kept : (v : Run) (t c i b : ℕ) (a : Answer) → let x : Block = Block.Run v (frame (frameNo t c i b)) in
+      let p : Plan = record { store = Store.word (wordNo t c i) (getD ws₀ (wordNo t c i) 0 + ones (runSize v) b); answer = a; mark = takes x } in
+      Fine p → handed (cs j .begun) a ≡ [] → ownedBy r ≡ [] → ownedBy (recordOf a) ≡ x ∷ [] → c < childrenOf g t → i < childWords → b + runSize v ≤ wordBits → bits (runSize v) b (getD ws₀ (wordNo t c i) 0) ≡ 0
+      → ((y : ℕ) → lowOf g (recordOf a) y + at (t * perTree g + c) (runSize v) y ≡ lowOf g r y) → ((y : ℕ) → owed g (recordOf a) y + at t (runSize v) y ≡ owed g r y) → ((y : ℕ) → reserves r y ≡ reserves (recordOf a) y)
       → Wanted (want (recordOf a)) (entryAt g (z .cpus) j) → Keeps p
   unfolding stored baseOf wholeOf
-  bits-kept t c i b a f hd o₁ o₂ h k d q low o v w =
-      let x : Block = Block.Base (frame (frameNo t c i b)) in
-      let nu : ℕ = getD ws₀ (wordNo t c i) 0 + ones 1 b in
+  bits-kept v t c i b a f hd o₁ o₂ h k d q low o rs w =
+      let x : Block = Block.Run v (frame (frameNo t c i b)) in
+      let nu : ℕ = getD ws₀ (wordNo t c i) 0 + ones (runSize v) b in
       let st : Store = Store.word (wordNo t c i) nu in
       let p : Plan = record { store = st; answer = a; mark = takes x } in
       let m : t * perTree g + c < n = child-in g (omega arith) t c h in
       let ws′ : List ℕ = set ws₀ (wordNo t c i) nu in
       let wt = weigh-takes st a x hd o₁ o₂ in
-      let lq : (y : ℕ) → lows g (upd cs j (answered (cs j) (takes x) a)) y + at (t * perTree g + c) 1 y ≡ lows g cs y = λ y. omega (arith, low-step p y, low y) in
-      let some : 1 ≤ lows g cs (t * perTree g + c) = omega (arith, lq (t * perTree g + c), at-same (t * perTree g + c) 1) in
-      let lower = bits-stored n cs₀ ws₀ _ _ _ (u .lower) (t * perTree g + c) i 1 b (lows g (upd cs j (answered (cs j) (takes x) a))) (λ y. weighed (baseOf y) (takes x) a) m k d (omega arith) some q lq (λ y. wt (baseOf y)) in
+      let lq : (y : ℕ) → lows g (upd cs j (answered (cs j) (takes x) a)) y + at (t * perTree g + c) (runSize v) y ≡ lows g cs y = λ y. omega (arith, low-step p y, low y) in
+      let some : runSize v ≤ lows g cs (t * perTree g + c) = omega (arith, lq (t * perTree g + c), at-same (t * perTree g + c) (runSize v)) in
+      let lower = bits-stored n cs₀ ws₀ _ _ _ (u .lower) (t * perTree g + c) i (runSize v) b (lows g (upd cs j (answered (cs j) (takes x) a))) (λ y. weighed (baseOf y) (takes x) a) m k d (run-some v) some q lq (λ y. wt (baseOf y)) in
       together p _ refl f refl refl
       (owned-same n cs₀ ws′ _ _ _ lower _ _ _ (λ y. refl) (λ y. refl) (λ y. wt (wholeOf y) ∙ add-zero _))
       (lower-upper cs₀ ws′ (recordOf a)
-      (λ y b′. omega (arith, o y, tree-free cs₀ ws′ t c 1 0 h (λ y. set-free n cs₀ ws₀ _ _ _ (u .lower) (t * perTree g + c) i 1 b m k d (omega arith) some q y ∙ omega (arith, at-none (t * perTree g + c) y)) y, at-none t y)) v w (f .proper))
+      (λ y b′. omega (arith, o y, tree-free cs₀ ws′ t c (runSize v) 0 h (λ y. set-free n cs₀ ws₀ _ _ _ (u .lower) (t * perTree g + c) i (runSize v) b m k d (run-some v) some q y ∙ omega (arith, at-none (t * perTree g + c) y)) y, at-none t y)) rs w (f .proper))
 
-  -- the clearing store of a base frame
-  pub bits-unkept : (t c i b : ℕ) (a : Answer) → let x : Block = Block.Base (frame (frameNo t c i b)) in
-      let p : Plan = record { store = Store.word (wordNo t c i) (getD ws₀ (wordNo t c i) 0 - ones 1 b); answer = a; mark = clears x } in
-      Fine p → handed (cs j .begun) a ≡ [] → ownedBy r ≡ x ∷ [] → ownedBy (recordOf a) ≡ [] → c < childrenOf g t → i < childWords → b + 1 ≤ wordBits → bits 1 b (getD ws₀ (wordNo t c i) 0) ≡ 1
-      → ((y : ℕ) → lowOf g (recordOf a) y ≡ lowOf g r y + at (t * perTree g + c) 1 y) → ((y : ℕ) → owed g (recordOf a) y ≡ owed g r y + at t 1 y) → ((y : ℕ) → reserves r y ≡ reserves (recordOf a) y)
+  -- the clearing store of a run
+  pub bits-unkept : (v : Run) (t c i b : ℕ) (a : Answer) → let x : Block = Block.Run v (frame (frameNo t c i b)) in
+      let p : Plan = record { store = Store.word (wordNo t c i) (getD ws₀ (wordNo t c i) 0 - ones (runSize v) b); answer = a; mark = clears x } in
+      Fine p → handed (cs j .begun) a ≡ [] → ownedBy r ≡ x ∷ [] → ownedBy (recordOf a) ≡ [] → c < childrenOf g t → i < childWords → b + runSize v ≤ wordBits → bits (runSize v) b (getD ws₀ (wordNo t c i) 0) ≡ 2 ^ runSize v - 1
+      → ((y : ℕ) → lowOf g (recordOf a) y ≡ lowOf g r y + at (t * perTree g + c) (runSize v) y) → ((y : ℕ) → owed g (recordOf a) y ≡ owed g r y + at t (runSize v) y) → ((y : ℕ) → reserves r y ≡ reserves (recordOf a) y)
       → Wanted (want (recordOf a)) (entryAt g (z .cpus) j) → Keeps p
   unfolding stored baseOf wholeOf
-  bits-unkept t c i b a f hd o₁ o₂ h k d q low o v w =
-      let x : Block = Block.Base (frame (frameNo t c i b)) in
-      let nu : ℕ = getD ws₀ (wordNo t c i) 0 - ones 1 b in
+  bits-unkept v t c i b a f hd o₁ o₂ h k d q low o rs w =
+      let x : Block = Block.Run v (frame (frameNo t c i b)) in
+      let nu : ℕ = getD ws₀ (wordNo t c i) 0 - ones (runSize v) b in
       let st : Store = Store.word (wordNo t c i) nu in
       let p : Plan = record { store = st; answer = a; mark = clears x } in
       let m : t * perTree g + c < n = child-in g (omega arith) t c h in
       let ws′ : List ℕ = set ws₀ (wordNo t c i) nu in
       let wt = weigh-clears st a x hd o₁ o₂ in
-      let lower = bits-cleared n cs₀ ws₀ _ _ _ (u .lower) (t * perTree g + c) i 1 b (lows g (upd cs j (answered (cs j) (clears x) a))) (λ y. weighed (baseOf y) (clears x) a) m k d (omega arith) q (λ y. omega (arith, low-step p y, low y)) (λ y. wt (baseOf y)) in
+      let lower = bits-cleared n cs₀ ws₀ _ _ _ (u .lower) (t * perTree g + c) i (runSize v) b (lows g (upd cs j (answered (cs j) (clears x) a))) (λ y. weighed (baseOf y) (clears x) a) m k d (run-some v) q (λ y. omega (arith, low-step p y, low y)) (λ y. wt (baseOf y)) in
       together p _ refl f refl refl
       (owned-same n cs₀ ws′ _ _ _ lower _ _ _ (λ y. refl) (λ y. refl) (λ y. sym (add-zero _) ∙ wt (wholeOf y)))
       (lower-upper cs₀ ws′ (recordOf a)
-      (λ y b′. omega (arith, o y, tree-free cs₀ ws′ t c 0 1 h (λ y. omega (arith, clear-free n cs₀ ws₀ _ _ _ (u .lower) (t * perTree g + c) i 1 b m k d (omega arith) q y, at-none (t * perTree g + c) y)) y, at-none t y)) v w (f .proper))
+      (λ y b′. omega (arith, o y, tree-free cs₀ ws′ t c 0 (runSize v) h (λ y. omega (arith, clear-free n cs₀ ws₀ _ _ _ (u .lower) (t * perTree g + c) i (runSize v) b m k d (run-some v) q y, at-none (t * perTree g + c) y)) y, at-none t y)) rs w (f .proper))

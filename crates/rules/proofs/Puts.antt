@@ -1,7 +1,7 @@
 -- Every step of a put keeps the invariant.
 use mathlib.Core.Path.{_≡_, refl, sym, ap, _∙_, subst}
 use mathlib.Core.List.{List, [], _∷_}
-use Prim.Native.Nat.{ℕ, _+_, _-_, _*_, _/_, _≤_, _<_}
+use Prim.Native.Nat.{ℕ, _+_, _-_, _*_, _/_, _%_, _^_, _≤_, _<_}
 use native.Mathlib.Omega.{arith}
 use native.Mathlib.Nat.{add-zero, zero-add}
 use lib.Dec.{eqb}
@@ -12,10 +12,11 @@ use Rattle.laws.specs.Words.{bit, bits, ones}
 use Rattle.laws.specs.Sum.{sumL, at}
 use Rattle.laws.proofs.Tests.{pick-elim}
 use Rattle.laws.proofs.Sum.{at-same, at-add, run-in, sum-part}
-use Rattle.rules.specs.Types.{Frame, Huge, Tree, Block, ChildEntry, CpuEntry, Giving, Record, Answer}
+use Rattle.laws.proofs.Words.{taken-bits}
+use Rattle.rules.specs.Types.{Frame, Huge, Tree, Run, Block, ChildEntry, CpuEntry, Giving, Record, Answer}
 use Rattle.rules.specs.Numbers.{childFrames, childWords, wordBits, Shape, perTree, treesOf, childrenOf, capacity}
 use Rattle.rules.specs.Conversions.{tree, huge, frame}
-use Rattle.rules.specs.Blocks.{sizeOf, firstOf, treeOfBlock, childOfBlock, hugeOfBlock, wordOf, bitOf}
+use Rattle.rules.specs.Blocks.{runSize, sizeOf, firstOf, treeOfBlock, childOfBlock, hugeOfBlock, wordOf, bitOf}
 use Rattle.rules.specs.Entries.{holdsChecks}
 use Rattle.rules.specs.Lower.{childSays, countWord, clearRun}
 use Rattle.rules.specs.Zone.{Zone, Store, nothing, shaped}
@@ -24,6 +25,7 @@ use Rattle.rules.specs.Ranges.{blockIn, givingIn}
 use Rattle.rules.specs.Give.{put, clear, give}
 use Rattle.rules.specs.Events.{Cpu, unlessCleared, lostBy, handed}
 use Rattle.rules.specs.Promise.{ownedBy}
+use Rattle.rules.proofs.Sizes.{run-some, bit-ends}
 use Rattle.rules.proofs.Guards.{look-plan, holds-plan, tally-plan, given-plan, cleared-plan}
 use Rattle.rules.proofs.Shapes.{tree-in, number-in, huge-is}
 use Rattle.rules.proofs.Layouts.{format1-sound, holds-again}
@@ -100,7 +102,7 @@ module _ (n : ℕ) (z : Zone) (cs : ℕ → Cpu) (held lost : List Block) (u : U
   abbrev Stage : Giving → Type 0
   Stage s = (e : cs j .latest ≡ Record.Put j s) → Kept s e (carried g z (give g j s))
 
-  -- a block lies in its child, its tree and, a base frame, its word
+  -- a block lies in its child and its tree
   child-of : (b : Block) → Passes (blockIn g b) → (treeOfBlock g b .0 < treesOf g) × (childOfBlock g b < childrenOf g (treeOfBlock g b .0)) × (treeOfBlock g b .0 * perTree g + childOfBlock g b ≡ hugeOfBlock b .0)
   child-of b p = let h = block-huge g b p in (tree-in g (omega arith) (hugeOfBlock b .0) h, number-in g (omega arith) (hugeOfBlock b .0) h, huge-is g (omega arith) (hugeOfBlock b .0))
 
@@ -137,21 +139,21 @@ module _ (n : ℕ) (z : Zone) (cs : ℕ → Cpu) (held lost : List Block) (u : U
       (λ x. rw held-by (add-zero _ ∙ at-add (t .0) k (sizeOf b) x)) (λ x. rw held-by refl) tt))
       (λ d. none))
 
-  raise-stage : (f : Frame) → Stage (Giving.Raise f)
+  raise-stage : (v : Run) (f : Frame) → Stage (Giving.Raise v f)
   unfolding give lowOf owed reserves givingIn
-  raise-stage f e =
-      let s : Giving = Giving.Raise f in
-      let b : Block = Block.Base f in
+  raise-stage v f e =
+      let s : Giving = Giving.Raise v f in
+      let b : Block = Block.Run v f in
       let t : Tree = treeOfBlock g b in
       let c : ℕ = childOfBlock g b in
       let q = child-of b (proper s e) in
       let i : ℕ = t .0 * perTree g + c in
       let x : ℕ = getD (z .children) i 0 in
-      let low : (y : ℕ) → lowOf g (Record.Put j s) y ≡ at i 1 y = λ y. ap (λ k. at k 1 y) (sym (q .2)) in
-      let y = under-way n z cs held lost u i j (rw (q .2) (block-huge g b (proper s e))) l (omega (arith, ap (λ r. lowOf g r i) e, low i, at-same i 1)) in
+      let low : (y : ℕ) → lowOf g (Record.Put j s) y ≡ at i (runSize v) y = λ y. ap (λ k. at k (runSize v) y) (sym (q .2)) in
+      let y = under-way n z cs held lost u i j (runSize v) (rw (q .2) (block-huge g b (proper s e))) l (run-some v) (omega (arith, ap (λ r. lowOf g r i) e, low i, at-same i (runSize v))) in
       let k : ℕ = y .0 in
-      read-child n z cs held lost u (Kept s e) t c _ (q .1) (rw (give-counts 1 x k (y .1) (y .2), given-plan g t c (countWord (k + 1)) (put g j (Giving.ToEntry b)) plain)
-      (count-kept n z cs held lost u j l _ e (t .0) c k (k + 1) _ (fine-goes s e _ (Giving.ToEntry b) (proper s e) refl) (q .1) (y .1) (y .2) (λ y. omega (arith, at-add i k 1 y, low y)) (λ y. refl) (λ y. refl) tt))
+      read-child n z cs held lost u (Kept s e) t c _ (q .1) (rw (give-counts (runSize v) x k (y .1) (y .2), given-plan g t c (countWord (k + runSize v)) (put g j (Giving.ToEntry b)) plain)
+      (count-kept n z cs held lost u j l _ e (t .0) c k (k + runSize v) _ (fine-goes s e _ (Giving.ToEntry b) (proper s e) refl) (q .1) (y .1) (y .2) (λ y. omega (arith, at-add i k (runSize v) y, low y)) (λ y. refl) (λ y. refl) tt))
 
   whole-stage : (h : Huge) → Stage (Giving.Clear (Block.Whole h))
   unfolding give clear lowOf owed reserves givingIn sumL wholeOf
@@ -175,10 +177,10 @@ module _ (n : ℕ) (z : Zone) (cs : ℕ → Cpu) (held lost : List Block) (u : U
       whole-of : (i : ℕ) → childFrames * i / childFrames ≡ i
       whole-of i = omega arith
 
-  base-stage : (f : Frame) → Stage (Giving.Clear (Block.Base f))
+  run-stage : (v : Run) (f : Frame) → Stage (Giving.Clear (Block.Run v f))
   unfolding give clear lowOf owed reserves givingIn sumL baseOf
-  base-stage f e =
-      let b : Block = Block.Base f in
+  run-stage v f e =
+      let b : Block = Block.Run v f in
       let s : Giving = Giving.Clear b in
       let t : Tree = treeOfBlock g b in
       let c : ℕ = childOfBlock g b in
@@ -192,18 +194,23 @@ module _ (n : ℕ) (z : Zone) (cs : ℕ → Cpu) (held lost : List Block) (u : U
       let word-of : f .0 / wordBits ≡ childWords * m + i = omega (arith, q .2) in
       let same : frame (m * childFrames + i * wordBits + k) ≡ f = ap frame at-frame in
       let x : ℕ = getD (z .words) (childWords * m + i) 0 in
-      let once = owned-once n (z .children) (z .words) _ _ (owned-survived n (z .children) (z .words) _ _ _ (u .lower)) (f .0) inside in
-      let one : weighs (baseOf (f .0)) held lost (length (z .cpus)) cs ≡ 1 = omega (arith, weighs-own s e (baseOf (f .0)), run-in 1 (f .0) (f .0) (omega arith) (omega arith), once) in
-      let on : bits 1 k x ≡ 1 = subst (λ y. bit k (getD (z .words) y 0) ≡ 1) word-of (base-bit n (z .children) (z .words) _ _ _ (u .lower) (f .0) inside one) in
-      read-word n z cs held lost u (Kept s e) t _ _ (omega (arith, q .1)) (subst (λ y. Kept s e (toWord g t (childWords * c + i) (onGave (clearRun 1 k (getD (z .words) y 0)) (put g j (Giving.Raise f)) (clears b)))) (sym at-word)
-      (rw (clear-run 1 k x on, cleared-plan g t (childWords * c + i) (x - ones 1 k) (put g j (Giving.Raise f)) (clears b), at-word)
-      (subst (λ (y : Frame). Kept s e (record { store = Store.word (childWords * m + i) (x - ones 1 k); answer = put g j (Giving.Raise f); mark = clears (Block.Base y) })) same
-      (bits-unkept n z cs held lost u j l _ e (t .0) c i k _ (fine-clears s e _ _ (Giving.Raise f) (proper s e) refl) (handed-none s e _) (ap (λ y. Block.Base y ∷ []) (sym same)) refl (q .1) (omega arith) (omega arith) on
-      (λ y. ap (λ d. at d 1 y) (sym (q .2)) ∙ sym (zero-add _)) (λ y. sym (zero-add _)) (λ y. refl) tt))))
+      let fits : k + runSize v ≤ wordBits = bit-ends v (f .0) (proper s e .1 .0) in
+      let on : bits (runSize v) k x ≡ 2 ^ runSize v - 1 = taken-bits (runSize v) k x (λ y d.
+      let in-zone : f .0 + y < childFrames * n = omega (arith, fits, inside, at-frame) in
+      let once = owned-once n (z .children) (z .words) _ _ (owned-survived n (z .children) (z .words) _ _ _ (u .lower)) (f .0 + y) in-zone in
+      let one : weighs (baseOf (f .0 + y)) held lost (length (z .cpus)) cs ≡ 1 = omega (arith, weighs-own s e (baseOf (f .0 + y)), run-in (runSize v) (f .0) (f .0 + y) (omega arith) (omega arith), once) in
+      let same-bit : (f .0 + y) % wordBits ≡ k + y = omega (arith, fits) in
+      let same-word : (f .0 + y) / wordBits ≡ childWords * m + i = omega (arith, fits, word-of) in
+      subst (λ c. bit c x ≡ 1) same-bit (subst (λ c. bit ((f .0 + y) % wordBits) (getD (z .words) c 0) ≡ 1) same-word (base-bit n (z .children) (z .words) _ _ _ (u .lower) (f .0 + y) in-zone one))) in
+      read-word n z cs held lost u (Kept s e) t _ _ (omega (arith, q .1)) (subst (λ y. Kept s e (toWord g t (childWords * c + i) (onGave (clearRun (runSize v) k (getD (z .words) y 0)) (put g j (Giving.Raise v f)) (clears b)))) (sym at-word)
+      (rw (clear-run (runSize v) k x on, cleared-plan g t (childWords * c + i) (x - ones (runSize v) k) (put g j (Giving.Raise v f)) (clears b), at-word)
+      (subst (λ (y : Frame). Kept s e (record { store = Store.word (childWords * m + i) (x - ones (runSize v) k); answer = put g j (Giving.Raise v f); mark = clears (Block.Run v y) })) same
+      (bits-unkept n z cs held lost u j l _ e v (t .0) c i k _ (fine-clears s e _ _ (Giving.Raise v f) (proper s e) refl) (handed-none s e _) (ap (λ y. Block.Run v y ∷ []) (sym same)) refl (q .1) (omega arith) fits on
+      (λ y. ap (λ d. at d (runSize v) y) (sym (q .2)) ∙ sym (zero-add _)) (λ y. sym (zero-add _)) (λ y. refl) tt))))
 
   pub put-kept : (s : Giving) → Stage s
-  put-kept (Giving.Clear (Block.Base f)) = base-stage f
+  put-kept (Giving.Clear (Block.Run v f)) = run-stage v f
   put-kept (Giving.Clear (Block.Whole h)) = whole-stage h
-  put-kept (Giving.Raise f) = raise-stage f
+  put-kept (Giving.Raise v f) = raise-stage v f
   put-kept (Giving.ToEntry b) = to-entry-stage b
   put-kept (Giving.ToTree b) = to-tree-stage b

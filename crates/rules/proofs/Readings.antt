@@ -74,8 +74,8 @@ module _ (n : ℕ) (z : Zone) (cs : ℕ → Cpu) (held lost : List Block) (u : U
   reserved t j h m = omega (arith, u .upper .flags t h, sum-part (length (z .cpus)) (λ q. reserves (cs q .latest) t) j m)
 
   -- a child below which something is under way has a count, with room for it
-  pub under-way : (i j : ℕ) → i < n → j < length (z .cpus) → 1 ≤ lowOf g (cs j .latest) i → (k : ℕ) × (childSays (getD (z .children) i 0) ≡ ChildEntry.Counts k) × (k + 1 ≤ childFrames)
-  under-way i j h m d =
+  pub under-way : (i j b : ℕ) → i < n → j < length (z .cpus) → 0 < b → b ≤ lowOf g (cs j .latest) i → (k : ℕ) × (childSays (getD (z .children) i 0) ≡ ChildEntry.Counts k) × (k + b ≤ childFrames)
+  under-way i j b h m b+ d =
       let s = sum-part (length (z .cpus)) (λ q. lowOf g (cs q .latest) i) j m in
       let c = low-clear n (z .children) (z .words) _ _ _ (u .lower) i h (omega arith) in
       (c .0, c .1, omega (arith, c .2, free-most n (z .children) (z .words) _ _ _ (u .lower) i))

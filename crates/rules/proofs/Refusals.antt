@@ -3,12 +3,11 @@ use mathlib.Core.Path.{_≡_, refl, sym, _∙_}
 use mathlib.Core.Logic.{_⊎_, inl, inr, _≢_}
 use mathlib.Core.Bool.{Bool, true, false, not, _&&_}
 use mathlib.Core.List.{List, [], _∷_, _++_}
-use Prim.Native.Nat.{ℕ, suc, _+_, _-_, _*_, _%_, _≤_, _<_}
+use Prim.Native.Nat.{ℕ, suc, _+_, _-_, _*_, _%_, _^_, _≤_, _<_}
 use native.Mathlib.Omega.{arith}
-use native.Mathlib.Decide.{ℕ-discrete}
 use lib.Dec.{eqb, leb, ltb}
 use lib.ListN.{length}
-use borrow.Author.Tests.{eqb-true, eqb-false, not-true, not-false}
+use borrow.Author.Tests.{eqb-true, eqb-false, ltb-true, ltb-false, not-true, not-false}
 use Rattle.laws.specs.Tests.{pick, Check, passes, Passes}
 use Rattle.laws.proofs.Tests.{pick-elim, true-false, all-passed, passes-of}
 use Rattle.rules.specs.Types.{Frame, Header, CpuEntry, Creating, Opening, Record, Answer}
@@ -26,6 +25,7 @@ use Rattle.rules.specs.Blocks.{size}
 use Rattle.rules.specs.Begin.{badCpu, badOrder, badFrame, misaligned, isOrder, orderOf, beginGet, beginPut}
 use Rattle.rules.specs.Refusals.{Rule, _when_, word0, WellFormed, HeaderMissing, NotAZone, IsClosed, openRules, getRules, frameRules, putRules, OutOfRange, entryRules, stepRules, StepElse, Quiet, sizeRules, createStepRules, BadChild, BadField, BadTree, BadCpu, BadOpening, Settled, openZoneRules, openStepRules, closeRules, Call, Refusals}
 use Rattle.rules.proofs.Lists.{Decides, Matches, None, first-guarded, quiet-guarded, decides-not, decides-unless, decides-iff, decides-le, decides-either, stable}
+use Rattle.rules.proofs.Sizes.{size-of}
 use Rattle.rules.proofs.Guards.{not-refused}
 use Rattle.rules.proofs.Bounds.{header-sized, open-sized}
 use Rattle.rules.proofs.Zones.{children-are, fields-are, trees-are, cpus-are, opening-is, settled-is}
@@ -67,11 +67,11 @@ clean-is x Header.Malformed (malformed n) w = absurd (w n)
 clean-is x (Header.Running k) (runs p m) w = record { when-true = λ e. true-false (sym e); when-false = λ e h. omega (arith, sym m ∙ h) }
 clean-is x (Header.Clean k) (rests p m) w = record { when-true = λ e. m; when-false = λ e. true-false e }
 
-order-is : (o : ℕ) → Decides (not (isOrder o)) ((o ≢ 0) × (o ≢ 9))
+order-is : (o : ℕ) → Decides (not (isOrder o)) ((6 < o) × (o ≢ 9))
 unfolding isOrder
-order-is o = pick-elim (λ b. Decides (not b) ((o ≢ 0) × (o ≢ 9))) (eqb o 0)
-    (λ b. record { when-true = λ e. true-false (sym e); when-false = λ e h. h .0 (eqb-true o 0 b) })
-    (λ b. record { when-true = λ e. (eqb-false o 0 b, eqb-false o 9 (not-true (eqb o 9) e)); when-false = λ e h. h .1 (eqb-true o 9 (not-false (eqb o 9) e)) })
+order-is o = pick-elim (λ b. Decides (not b) ((6 < o) × (o ≢ 9))) (ltb o 7)
+    (λ b. record { when-true = λ e. true-false (sym e); when-false = λ e h. omega (arith, ltb-true o 7 b, h .0) })
+    (λ b. record { when-true = λ e. (ltb-false o 7 b, eqb-false o 9 (not-true (eqb o 9) e)); when-false = λ e h. h .1 (eqb-true o 9 (not-false (eqb o 9) e)) })
 
 module _ (z : Zone) where
   missing-is : Decides (not (passes (oneHeader z))) (HeaderMissing z)
@@ -89,18 +89,15 @@ module _ (z : Zone) where
   open-matches : (l : List Refusal) (rs : List Rule) → (None (openRules z) → Matches l rs) → Matches (notOpen z ++ l) (openRules z ++ rs)
   open-matches l rs k = (refl, missing-is, λ a. (refl, zone-is, λ b. (refl, closed-is b, λ c. (refl, decides-unless (lengthChecks (shapeOf z) z), λ d. k (a, (b, (c, (d, tt))))))))
 
-  begin-matches : (j o : ℕ) (l : List Refusal) (rs : List Rule) → (((o ≢ 0) × (o ≢ 9) → ⊥) → Matches l rs) → Matches (notOpen z ++ (badCpu z j ∷ badOrder o ∷ l)) (getRules z j o ++ rs)
-  begin-matches j o l rs k = open-matches (badCpu z j ∷ badOrder o ∷ l) (7 when (length (z .cpus) ≤ j) ∷ 3 when ((o ≢ 0) × (o ≢ 9)) ∷ rs) (λ n. (refl, decides-le (length (z .cpus)) j, λ a. (refl, order-is o, k)))
+  begin-matches : (j o : ℕ) (l : List Refusal) (rs : List Rule) → (((6 < o) × (o ≢ 9) → ⊥) → Matches l rs) → Matches (notOpen z ++ (badCpu z j ∷ badOrder o ∷ l)) (getRules z j o ++ rs)
+  begin-matches j o l rs k = open-matches (badCpu z j ∷ badOrder o ∷ l) (7 when (length (z .cpus) ≤ j) ∷ 3 when ((6 < o) × (o ≢ 9)) ∷ rs) (λ n. (refl, decides-le (length (z .cpus)) j, λ a. (refl, order-is o, k)))
 
 frame-is : (z : Zone) (f : Frame) → Decides (leb (shapeOf z .huge * 512) (f .0)) (512 * shapeOf z .huge ≤ f .0)
 frame-is z f = decides-iff _ _ _ (λ h. omega arith) (λ h. omega arith) (decides-le (shapeOf z .huge * 512) (f .0))
 
 -- of an order that is one's
-aligned-is : (o : ℕ) (f : Frame) → ((o ≢ 0) × (o ≢ 9) → ⊥) → Decides (not (eqb (f .0 % size (orderOf o)) 0)) ((o ≡ 9) × (f .0 % 512 ≢ 0))
-unfolding orderOf
-aligned-is o f n = pick-elim (λ k. Decides (not (eqb (f .0 % size k) 0)) ((o ≡ 9) × (f .0 % 512 ≢ 0))) (eqb o 0)
-    (λ b. record { when-true = λ e. absurd (eqb-false (f .0 % 1) 0 (not-true _ e) (omega arith)); when-false = λ e h. omega (arith, eqb-true o 0 b, h .0) })
-    (λ b. record { when-true = λ e. (elim (ℕ-discrete o 9) [ yes p ↦ p | no p ↦ absurd (n (eqb-false o 0 b, p)) ], eqb-false (f .0 % 512) 0 (not-true _ e)); when-false = λ e h. h .1 (eqb-true (f .0 % 512) 0 (not-false _ e)) })
+aligned-is : (o : ℕ) (f : Frame) → ((6 < o) × (o ≢ 9) → ⊥) → Decides (not (eqb (f .0 % size (orderOf o)) 0)) (f .0 % 2 ^ o ≢ 0)
+aligned-is o f n = rw (size-of o n) (record { when-true = λ e. eqb-false _ 0 (not-true _ e); when-false = λ e h. h (eqb-true _ 0 (not-false _ e)) })
 
 get-call : (z : Zone) (j o : ℕ) → Call (getRules z j o) (λ m. m ≡ 1) (beginGet z j o)
 unfolding beginGet

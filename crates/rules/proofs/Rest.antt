@@ -11,10 +11,10 @@ use Rattle.laws.specs.Sum.{sumTo, sumL, at}
 use Rattle.laws.proofs.Tests.{pick-elim, pick-no, both-and, every-all}
 use Rattle.laws.proofs.Sum.{run-in, run-below, run-above, at-same, at-other, sum-ext, sum-zero, sum-groups}
 use Rattle.laws.proofs.Parts.{part-at}
-use Rattle.rules.specs.Types.{Order, Block}
+use Rattle.rules.specs.Types.{Block}
 use Rattle.rules.specs.Numbers.{childFrames, Shape, perTree, treesOf, childrenOf, capacity}
 use Rattle.rules.specs.Conversions.{huge, tree}
-use Rattle.rules.specs.Blocks.{size, sizeOf, firstOf}
+use Rattle.rules.specs.Blocks.{runSize, sizeOf, firstOf}
 use Rattle.rules.specs.Lower.{isFlagged, countIn, partSum}
 use Rattle.rules.specs.Zone.{Zone, shaped, cpuEntryAt}
 use Rattle.rules.specs.Plan.{byTree}
@@ -27,6 +27,7 @@ use Rattle.rules.proofs.Fresh.{child-at}
 use Rattle.rules.proofs.Own.{freeOf, Survived, taken-owned, free-unowned, owned-survived}
 use Rattle.rules.proofs.Shares.{baseOf, wholeOf, share, lowOf, owed}
 use Rattle.rules.proofs.Upper.{entryAt, tallyAt}
+use Rattle.rules.proofs.Sizes.{run-some, run-inside}
 use Rattle.rules.proofs.Invariant.{BlockIn, AllIn, weighs, freeTree, Up}
 use Rattle.rules.proofs.Readings.{tree-says}
 use Rattle.rules.proofs.Phases.{weighed, zeros-at, all-formed, all-empty}
@@ -35,7 +36,7 @@ use Rattle.rules.proofs.Phases.{weighed, zeros-at, all-formed, all-empt
 
 covers-is : (b : Block) (f : ℕ) → covers b f ≡ baseOf f b + wholeOf (f / childFrames) b
 unfolding baseOf wholeOf
-covers-is (Block.Base x) f = omega arith
+covers-is (Block.Run v x) f = omega arith
 covers-is (Block.Whole h) f = elim (ℕ-discrete (h .0) (f / childFrames)) [
   | yes e ↦ omega (arith, run-in childFrames (h .0 * childFrames) f (omega arith) (omega arith), ap (λ c. at (h .0) 1 c) (sym e), at-same (h .0) 1)
   | no m ↦ elim (decLt f (h .0 * childFrames)) [
@@ -51,18 +52,18 @@ covered-is (b ∷ l) f = omega (arith, covers-is b f, covered-is l f)
 
 -- a block of the zone ends in it
 pub block-ends : (n : ℕ) (b : Block) → BlockIn n b → firstOf b .0 + sizeOf b ≤ childFrames * n
-block-ends n (Block.Base f) l = omega (arith, l)
+block-ends n (Block.Run v f) l = run-inside v n (f .0) (l .0) (l .1)
 block-ends n (Block.Whole x) l = omega (arith, l)
 
 pub block-some : (b : Block) → 0 < sizeOf b
-block-some (Block.Base f) = omega arith
+block-some (Block.Run v f) = run-some v
 block-some (Block.Whole x) = omega arith
 
 -- beyond the zone no block of it stands
 pub covered-out : (n : ℕ) (l : List Block) (f : ℕ) → AllIn n l → childFrames * n ≤ f → covered l f ≡ 0
 unfolding sumL
 covered-out n [] f a h = refl
-covered-out n (Block.Base x ∷ l) f a h = omega (arith, covered-out n l f (a .1) h, run-above (size Order.Zero) (x .0) f (omega (arith, a .0)))
+covered-out n (Block.Run v x ∷ l) f a h = omega (arith, covered-out n l f (a .1) h, run-above (runSize v) (x .0) f (omega (arith, block-ends n (Block.Run v x) (a .0))))
 covered-out n (Block.Whole x ∷ l) f a h = omega (arith, covered-out n l f (a .1) h, run-above childFrames (x .0 * childFrames) f (omega (arith, a .0)))
 
 -- two places of a list

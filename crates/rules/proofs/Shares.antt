@@ -6,7 +6,7 @@ use Rattle.laws.specs.Tests.{Passes}
 use Rattle.laws.specs.Sum.{run, at}
 use Rattle.rules.specs.Types.{Tree, Order, Block, CpuEntry, Place, Taking, Giving, Record}
 use Rattle.rules.specs.Numbers.{Shape, perTree}
-use Rattle.rules.specs.Blocks.{size, sizeOf, treeOfBlock, hugeOfBlock}
+use Rattle.rules.specs.Blocks.{runSize, size, sizeOf, treeOfBlock, hugeOfBlock}
 use Rattle.rules.specs.Plan.{Mark, byCpu}
 use Rattle.rules.specs.Ranges.{takingIn, givingIn}
 use Rattle.rules.specs.Places.{foundTree, placeTree}
@@ -15,11 +15,11 @@ use Rattle.rules.specs.Promise.{ownedBy}
 
 -- ---- what a block covers, as base frames and as whole children
 unfoldable pub baseOf : ℕ → Block → ℕ
-baseOf f (Block.Base b) = run (size Order.Zero) (b .0) f
+baseOf f (Block.Run v b) = run (runSize v) (b .0) f
 baseOf f (Block.Whole h) = 0
 
 unfoldable pub wholeOf : ℕ → Block → ℕ
-wholeOf c (Block.Base b) = 0
+wholeOf c (Block.Run v b) = 0
 wholeOf c (Block.Whole h) = at (h .0) 1 c
 
 -- ---- what an entry counts of tree t, and whether it holds it
@@ -48,13 +48,13 @@ module _ (g : Shape) where
   lowOf (Record.Get j (Taking.Steal o i)) x = 0
   lowOf (Record.Get j (Taking.StealCount o i t h)) x = 0
   lowOf (Record.Get j (Taking.Child o p s c)) x = 0
-  lowOf (Record.Get j (Taking.Word p s c w)) x = at (childNo p c) (size Order.Zero) x
-  lowOf (Record.Get j (Taking.GiveBack p s c)) x = at (childNo p c) (size Order.Zero) x
+  lowOf (Record.Get j (Taking.Word v p s c w)) x = at (childNo p c) (runSize v) x
+  lowOf (Record.Get j (Taking.GiveBack v p s c)) x = at (childNo p c) (runSize v) x
   lowOf (Record.Get j (Taking.Last b)) x = 0
   lowOf (Record.Get j (Taking.Fail o p)) x = 0
   lowOf (Record.Get j Taking.NoRoom) x = 0
   lowOf (Record.Put j (Giving.Clear b)) x = 0
-  lowOf (Record.Put j (Giving.Raise f)) x = at (hugeOfBlock (Block.Base f) .0) (size Order.Zero) x
+  lowOf (Record.Put j (Giving.Raise v f)) x = at (hugeOfBlock (Block.Run v f) .0) (runSize v) x
   lowOf (Record.Put j (Giving.ToEntry b)) x = 0
   lowOf (Record.Put j (Giving.ToTree b)) x = 0
   lowOf (Record.Create y) x = 0
@@ -75,13 +75,13 @@ module _ (g : Shape) where
   owed (Record.Get j (Taking.Steal o i)) x = 0
   owed (Record.Get j (Taking.StealCount o i t h)) x = at (t .0) h x
   owed (Record.Get j (Taking.Child o p s c)) x = at (placeTree p .0) (size o) x
-  owed (Record.Get j (Taking.Word p s c w)) x = at (placeTree p .0) (size Order.Zero) x
-  owed (Record.Get j (Taking.GiveBack p s c)) x = at (placeTree p .0) (size Order.Zero) x
+  owed (Record.Get j (Taking.Word v p s c w)) x = at (placeTree p .0) (runSize v) x
+  owed (Record.Get j (Taking.GiveBack v p s c)) x = at (placeTree p .0) (runSize v) x
   owed (Record.Get j (Taking.Last b)) x = 0
   owed (Record.Get j (Taking.Fail o p)) x = at (placeTree p .0) (size o) x
   owed (Record.Get j Taking.NoRoom) x = 0
   owed (Record.Put j (Giving.Clear b)) x = 0
-  owed (Record.Put j (Giving.Raise f)) x = at (treeOfBlock g (Block.Base f) .0) (size Order.Zero) x
+  owed (Record.Put j (Giving.Raise v f)) x = at (treeOfBlock g (Block.Run v f) .0) (runSize v) x
   owed (Record.Put j (Giving.ToEntry b)) x = at (treeOfBlock g b .0) (sizeOf b) x
   owed (Record.Put j (Giving.ToTree b)) x = at (treeOfBlock g b .0) (sizeOf b) x
   owed (Record.Create y) x = 0
@@ -102,8 +102,8 @@ reserves (Record.Get j (Taking.Write o f h)) x = at (foundTree f .0) 1 x
 reserves (Record.Get j (Taking.Steal o i)) x = 0
 reserves (Record.Get j (Taking.StealCount o i t h)) x = at (t .0) 1 x
 reserves (Record.Get j (Taking.Child o p s c)) x = 0
-reserves (Record.Get j (Taking.Word p s c w)) x = 0
-reserves (Record.Get j (Taking.GiveBack p s c)) x = 0
+reserves (Record.Get j (Taking.Word v p s c w)) x = 0
+reserves (Record.Get j (Taking.GiveBack v p s c)) x = 0
 reserves (Record.Get j (Taking.Last b)) x = 0
 reserves (Record.Get j (Taking.Fail o p)) x = 0
 reserves (Record.Get j Taking.NoRoom) x = 0
@@ -136,8 +136,8 @@ want (Record.Get j (Taking.Write o f h)) = gone
 want (Record.Get j (Taking.Steal o i)) = gone
 want (Record.Get j (Taking.StealCount o i t h)) = gone
 want (Record.Get j (Taking.Child o p s c)) = mine (placeTree p)
-want (Record.Get j (Taking.Word p s c w)) = mine (placeTree p)
-want (Record.Get j (Taking.GiveBack p s c)) = mine (placeTree p)
+want (Record.Get j (Taking.Word v p s c w)) = mine (placeTree p)
+want (Record.Get j (Taking.GiveBack v p s c)) = mine (placeTree p)
 want (Record.Get j (Taking.Last b)) = anything
 want (Record.Get j (Taking.Fail o p)) = mine (placeTree p)
 want (Record.Get j Taking.NoRoom) = gone
@@ -159,8 +159,8 @@ Enough (Taking.Write o f h) = size o ≤ h
 Enough (Taking.Steal o i) = Unit {0}
 Enough (Taking.StealCount o i t h) = Unit {0}
 Enough (Taking.Child o p s c) = Unit {0}
-Enough (Taking.Word p s c w) = Unit {0}
-Enough (Taking.GiveBack p s c) = Unit {0}
+Enough (Taking.Word v p s c w) = Unit {0}
+Enough (Taking.GiveBack v p s c) = Unit {0}
 Enough (Taking.Last b) = Unit {0}
 Enough (Taking.Fail o p) = Unit {0}
 Enough Taking.NoRoom = Unit {0}
@@ -188,8 +188,8 @@ OfOrder (Taking.Write o f h) k = o ≡ k
 OfOrder (Taking.Steal o i) k = o ≡ k
 OfOrder (Taking.StealCount o i t h) k = o ≡ k
 OfOrder (Taking.Child o p s c) k = o ≡ k
-OfOrder (Taking.Word p s c w) k = Order.Zero ≡ k
-OfOrder (Taking.GiveBack p s c) k = Order.Zero ≡ k
+OfOrder (Taking.Word v p s c w) k = (Order.Run v) ≡ k
+OfOrder (Taking.GiveBack v p s c) k = (Order.Run v) ≡ k
 OfOrder (Taking.Last b) k = orderOfBlock b ≡ k
 OfOrder (Taking.Fail o p) k = o ≡ k
 OfOrder Taking.NoRoom k = Unit {0}

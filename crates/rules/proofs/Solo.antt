@@ -1,7 +1,7 @@
 -- A get that runs alone ends with a free block, or with No room where every tree is bare.
 use mathlib.Core.Path.{_≡_, refl, sym, ap, _∙_, subst}
 use mathlib.Core.Logic.{_≢_, inl, inr}
-use mathlib.Core.Bool.{true, not}
+use mathlib.Core.Bool.{not}
 use mathlib.Core.List.{List, [], _∷_, _++_}
 use Prim.Native.Nat.{ℕ, zero, suc, _+_, _-_, _*_, _/_, _%_, _≤_, _<_}
 use native.Mathlib.Omega.{arith}
@@ -9,22 +9,22 @@ use native.Mathlib.Decide.{ℕ-discrete}
 use native.Mathlib.Nat.{mod-lt, div-add-mod', mul-le-mul-right, mul-zero, zero-mul, add-zero}
 use lib.ListN.{length}
 use borrow.Author.Tests.{lt-leb}
-use Rattle.laws.specs.Tests.{pick}
 use Rattle.laws.specs.Sum.{upd, sumL, run}
 use Rattle.laws.proofs.Sum.{upd-at, upd-other, run-in}
 use Rattle.rules.specs.Types.{Frame, Order, Block, Taking, Record, Answer}
-use Rattle.rules.specs.Numbers.{childFrames, format1, Shape, perTree, treesOf}
-use Rattle.rules.specs.Blocks.{size, sizeOf, firstOf, blockAt}
+use Rattle.rules.specs.Numbers.{childFrames, childWords, wordBits, format1, Shape, perTree, treesOf}
+use Rattle.rules.specs.Blocks.{runSize, size, sizeOf, firstOf, blockAt}
 use Rattle.rules.specs.Answers.{number, frameOf, recordOf}
 use Rattle.rules.specs.Zone.{Zone, nothing, shaped, shapeOf}
 use Rattle.rules.specs.Plan.{Mark, Plan, says}
 use Rattle.rules.specs.Ranges.{takingIn}
-use Rattle.rules.specs.Begin.{orderNumber, isOrder, orderOf, badCpu, badOrder, beginGet}
+use Rattle.rules.specs.Begin.{orderNumber, orderOf, badCpu, badOrder, beginGet}
 use Rattle.rules.specs.Step.{step, after, mostGet, follow}
 use Rattle.rules.specs.Bounds.{Ends}
 use Rattle.rules.specs.Events.{Begun, idle, getting, putting, Cpu, resting, taken, handed, ready}
 use Rattle.rules.specs.Promise.{takenAt, covered, most, Names}
 use Rattle.rules.specs.Solo.{frames, Free, NoneFree, alone, Solo, SoloRule}
+use Rattle.rules.proofs.Sizes.{word-of, order-again}
 use Rattle.rules.proofs.Ways.{guarded-none}
 use Rattle.rules.proofs.Bounds.{bounds}
 use Rattle.rules.proofs.Shapes.{huge-is, tree-in, number-in}
@@ -40,9 +40,9 @@ use Rattle.rules.proofs.Stays.{Said, step-on}
 
 -- the order that a CPU's operation gets
 abbrev orderGot : Begun → Order
-orderGot idle = Order.Zero
+orderGot idle = Order.Nine
 orderGot (getting o) = o
-orderGot (putting b) = Order.Zero
+orderGot (putting b) = Order.Nine
 
 -- an answer below 3
 small-elim : (Q : Answer → Type 0) → ((f : Frame) → Q (Answer.Done f)) → ((r : Record) → Q (Answer.UnderWay r)) → Q Answer.NoRoom → (a : Answer) → number a ≤ 2 → Q a
@@ -155,24 +155,17 @@ module _ (n j : ℕ) (o : Order) (held lost : List Block) where
 
 -- ---- the rule
 
--- an order is the order of its number
-order-again : (o : Order) → (isOrder (orderNumber o) ≡ true) × (orderOf (orderNumber o) ≡ o)
-unfolding isOrder orderOf pick
-order-again Order.Zero = (refl, refl)
-order-again Order.Nine = (refl, refl)
-
 -- a block's size divides a child
+whole-of : (s m : ℕ) → s * m ≡ wordBits → s * (childWords * m) ≡ childFrames
+whole-of s m e = omega arith
+
 parts : (o : Order) → (m : ℕ) × (size o * m ≡ childFrames)
-parts Order.Zero = (childFrames, omega arith)
+parts (Order.Run v) = (childWords * (wordBits / runSize v), whole-of (runSize v) (wordBits / runSize v) (word-of v))
 parts Order.Nine = (1, omega arith)
 
 size-at : (o : Order) (f : Frame) → sizeOf (blockAt o f) ≡ size o
-size-at Order.Zero f = refl
+size-at (Order.Run v) f = refl
 size-at Order.Nine f = refl
-
-size-some : (o : Order) → 0 < size o
-size-some Order.Zero = omega arith
-size-some Order.Nine = omega arith
 
 -- where every child is short no block is free
 short-none : (n s m : ℕ) → s * m ≡ childFrames → (cs ws : List ℕ) → ((x : ℕ) → x < n → Short s cs ws x) → (f : ℕ) → f % s ≡ 0 → f + s ≤ childFrames * n → ((i : ℕ) → i < s → takenIn cs ws (f + i) ≡ 0) → ⊥

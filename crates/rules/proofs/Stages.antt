@@ -3,7 +3,7 @@ use mathlib.Core.Path.{_≡_, refl, ap, subst}
 use mathlib.Core.Logic.{_⊎_, inl, inr, _≢_}
 use mathlib.Core.Bool.{Bool, _&&_}
 use mathlib.Core.List.{[]}
-use Prim.Native.Nat.{ℕ, suc, _+_, _-_, _/_, _%_, _^_, _≤_, _<_}
+use Prim.Native.Nat.{ℕ, suc, _+_, _-_, _^_, _≤_, _<_}
 use native.Mathlib.Omega.{arith}
 use native.Mathlib.Decide.{decLe}
 use lib.Dec.{eqb, leb, ltb}
@@ -12,10 +12,11 @@ use borrow.Author.Tests.{eqb-true, eqb-false, leb-true, leb-false}
 use Rattle.laws.specs.Tests.{pick, passes, Passes}
 use Rattle.laws.specs.Words.{bit, bits}
 use Rattle.laws.proofs.Tests.{pick-elim, passes-left, passes-right, all-passed}
-use Rattle.rules.specs.Types.{Tree, Order, Block, ChildEntry, TreeEntry, CpuEntry, Took, Bit, Gave, Place, Taking, Giving, Record, Answer}
+use Rattle.laws.proofs.Words.{bits-taken, some-free}
+use Rattle.rules.specs.Types.{Tree, Run, Order, Block, ChildEntry, TreeEntry, CpuEntry, Took, Bit, Gave, Place, Taking, Giving, Record, Answer}
 use Rattle.rules.specs.Numbers.{childFrames, childWords, Shape, perTree, treesOf, capacity}
 use Rattle.rules.specs.Conversions.{tree, huge}
-use Rattle.rules.specs.Blocks.{size, sizeOf, treeOfBlock, childOfBlock, hugeOfBlock}
+use Rattle.rules.specs.Blocks.{runSize, size, sizeOf, treeOfBlock, childOfBlock, hugeOfBlock}
 use Rattle.rules.specs.Answers.{number}
 use Rattle.rules.specs.Entries.{holdsChecks}
 use Rattle.rules.specs.Lower.{Lowered, told, changed, childSays, byChild, claim, takeHuge, giveCount, clearHuge, takeRun, clearRun}
@@ -169,7 +170,7 @@ same-entry : (e : CpuEntry) (t : Tree) (s s′ k k′ : ℕ) → e ≡ CpuEntry.
 same-entry e t s s′ k k′ p q = cc
 
 pub block-huge : (g : Shape) (b : Block) → Passes (blockIn g b) → hugeOfBlock b .0 < g .huge
-block-huge g (Block.Base f) h = omega (arith, h .0)
+block-huge g (Block.Run v f) h = omega (arith, h .0)
 block-huge g (Block.Whole h) q = q .0
 
 -- ---- the stages of a get
@@ -280,11 +281,11 @@ module _ (g : Shape) (z : Zone) (k+ : 0 < perTree g) (n+ : 0 < g .huge) (j : ℕ
       told-tree g z r t _ inl (λ b k e l. pick-elim (λ (m : Made Tally). Told g z r (toTree g t m)) (leb (x + k) (capacity g (t .0)))
       (λ c. told-count g z r t b 0 _ (λ m. goes g z r _ (sound (count-clash _ b k e) (tree-fits t x b k e (let y : x + k ≤ capacity g (t .0) = leb-true _ _ c in omega arith))) never (inr (steal-number o i t (x + k)))) (λ m. absurd (omega arith)))
       (λ c. told-tree-look g z r t _ (damaged g z r (inr (b, k, e, (let y : capacity g (t .0) < x + k = leb-false _ _ c in omega arith))))))
-  take-told (Taking.Child Order.Zero p s c) h = told-child g z _ (placeTree p) c _ (told-took g z _ (placeTree p) c _ (λ k. leb 1 k) _ _ _ _ refl (next-number Order.Zero p s c) inl (λ u. sound u never) never)
+  take-told (Taking.Child (Order.Run v) p s c) h = told-child g z _ (placeTree p) c _ (told-took g z _ (placeTree p) c _ (λ k. leb (runSize v) k) _ _ _ _ refl (next-number (Order.Run v) p s c) inl (λ u. sound u never) never)
   take-told (Taking.Child Order.Nine p s c) h = told-child g z _ (placeTree p) c _ (told-took g z _ (placeTree p) c _ (λ k. eqb k childFrames) _ _ _ _ refl (next-number Order.Nine p s c) inl (λ u. sound u never) never)
-  take-told (Taking.Word p s c w) h = told-word g z _ (placeTree p) _ _ (told-run g z _ (placeTree p) _ 1 _ _ _ _ (λ b. refl) (pick-elim (λ a. number a ≡ 1) (ltb (suc w) childWords) (λ b. refl) (λ b. refl)) (sound never never) never)
-  take-told (Taking.GiveBack p s c) h = told-child g z _ (placeTree p) c _ (told-give g z _ (placeTree p) c _ 1 _ _ (next-number Order.Zero p s c) inl (λ e. inr (inl e)) (λ k e l. inr (inr (k, e, l)))
-      (λ k e l. sound (count-no _ k e) (child-fits (placeTree p) c 1 k e l)) never)
+  take-told (Taking.Word v p s c w) h = told-word g z _ (placeTree p) _ _ (told-run g z _ (placeTree p) _ (runSize v) _ _ _ _ (λ b. refl) (pick-elim (λ a. number a ≡ 1) (ltb (suc w) childWords) (λ b. refl) (λ b. refl)) (sound never never) never)
+  take-told (Taking.GiveBack v p s c) h = told-child g z _ (placeTree p) c _ (told-give g z _ (placeTree p) c _ (runSize v) _ _ (next-number (Order.Run v) p s c) inl (λ e. inr (inl e)) (λ k e l. inr (inr (k, e, l)))
+      (λ k e l. sound (count-no _ k e) (child-fits (placeTree p) c (runSize v) k e l)) never)
   take-told (Taking.Last b) h = told-own _ (treeOfBlock g b) _ _ (inr refl) inl never (λ u v. sound u never) (λ s k e p.
       told-holds g z _ j (treeOfBlock g b) (childOfBlock g b) k _ (p .0, (number-in g k+ _ (block-huge g b h), (p .1 .1 .0, tt))) (goes g z _ _ (sound (clash _ _ s k e) never) never (inl refl)))
   take-told (Taking.Fail o p) h = told-add _ (placeTree p) (size o) (λ b. b) _ (inr refl) (λ d. d) (λ d. d) never
@@ -292,16 +293,14 @@ module _ (g : Shape) (z : Zone) (k+ : 0 < perTree g) (n+ : 0 < g .huge) (j : ℕ
 
   -- ---- the stages of a put
 
-  bit-one : (b w : ℕ) → (bits 1 b w ≢ 2 ^ 1 - 1 → bit b w ≡ 0) × (bits 1 b w ≡ 2 ^ 1 - 1 → bit b w ≡ 0 → ⊥)
-  bit-one b w = (λ h. bit-zero-of (w / 2 ^ b % 2) (omega arith) h, λ h e. omega arith)
-    where
-      bit-zero-of : (x : ℕ) → x < 2 → x ≢ 1 → x ≡ 0
-      bit-zero-of x h n = omega arith
+  -- where a run's bits are all ones none is clear
+  none-clear : (v : Run) (b w : ℕ) → bits (runSize v) b w ≡ 2 ^ runSize v - 1 → (i : ℕ) × (i < runSize v) × (bit (b + i) w ≡ 0) → ⊥
+  none-clear v b w e q = omega (arith, bits-taken (runSize v) b w (q .0) e (q .1), q .2)
 
   pub give-told : (s : Giving) → Passes (givingIn g s) → Told g z (Record.Put j s) (carried g z (give g j s))
   unfolding give clear givingIn
-  give-told (Giving.Clear (Block.Base f)) h = told-word g z _ _ _ _ (told-clear g z _ _ _ 1 _ _ _ _ refl (sound never never) (bit-one _ _ .0) (bit-one _ _ .1))
+  give-told (Giving.Clear (Block.Run v f)) h = told-word g z _ _ _ _ (told-clear g z _ _ _ (runSize v) _ _ _ _ refl (sound never never) (some-free (runSize v) _ _) (none-clear v _ _))
   give-told (Giving.Clear (Block.Whole b)) h = told-child g z _ _ _ _ (told-clear-huge g z _ _ _ _ _ _ refl inl (λ u. sound u never) (λ k e. (k, e)) (λ e q. count-flag _ (q .0) (q .1) e))
-  give-told (Giving.Raise f) h = told-child g z _ _ _ _ (told-give g z _ _ _ _ 1 _ _ refl inl (λ e. inr (inl e)) (λ k e l. inr (inr (k, e, l))) (λ k e l. sound (count-no _ k e) (child-fits _ _ 1 k e l)) never)
+  give-told (Giving.Raise v f) h = told-child g z _ _ _ _ (told-give g z _ _ _ _ (runSize v) _ _ refl inl (λ e. inr (inl e)) (λ k e l. inr (inr (k, e, l))) (λ k e l. sound (count-no _ k e) (child-fits _ _ (runSize v) k e l)) never)
   give-told (Giving.ToEntry b) h = told-own-add _ (treeOfBlock g b) (sizeOf b) _ _ (inl refl) refl (λ d. d) (λ d. d) never
   give-told (Giving.ToTree b) h = told-add _ (treeOfBlock g b) (sizeOf b) (λ x. x) _ (inl refl) (λ d. d) (λ d. d) never

@@ -3,7 +3,7 @@ use mathlib.Core.Path.{_≡_, refl, sym, ap, _∙_, subst}
 use mathlib.Core.Logic.{_≢_}
 use mathlib.Core.Bool.{false, _&&_}
 use mathlib.Core.List.{List, [], _∷_}
-use Prim.Native.Nat.{ℕ, suc, _+_, _-_, _*_, _%_, _≤_, _<_}
+use Prim.Native.Nat.{ℕ, suc, _+_, _-_, _*_, _/_, _%_, _≤_, _<_}
 use native.Mathlib.Omega.{arith}
 use native.Mathlib.Decide.{ℕ-discrete, decLt}
 use lib.Dec.{eqb, leb, ltb}
@@ -15,10 +15,10 @@ use Rattle.laws.specs.Words.{bits, ones, lowest}
 use Rattle.laws.proofs.Words.{lowest-below}
 use Rattle.laws.proofs.Tests.{pick-elim, passes-left, passes-right}
 use Rattle.laws.proofs.Sum.{at-same, sum-single}
-use Rattle.rules.specs.Types.{Tree, Order, Block, ChildEntry, CpuEntry, Took, Bit, Pass, Found, Place, Taking, Record, Answer}
+use Rattle.rules.specs.Types.{Tree, Run, Order, Block, ChildEntry, CpuEntry, Took, Bit, Pass, Found, Place, Taking, Record, Answer}
 use Rattle.rules.specs.Numbers.{childFrames, childWords, wordBits, format1, Shape, perTree, treesOf, childrenOf, capacity}
 use Rattle.rules.specs.Conversions.{huge}
-use Rattle.rules.specs.Blocks.{size, firstOf, treeOfBlock, frameAt}
+use Rattle.rules.specs.Blocks.{runSize, size, firstOf, treeOfBlock, frameAt}
 use Rattle.rules.specs.Answers.{number, byAnswer}
 use Rattle.rules.specs.Entries.{field, treeLayout, treeWord, cpuWord, cpuSays}
 use Rattle.rules.specs.Lower.{Lowered, told, childSays, countWord, flaggedWord, countIn, takeRun}
@@ -26,9 +26,10 @@ use Rattle.rules.specs.Zone.{Zone, shaped, Store, stored}
 use Rattle.rules.specs.Plan.{Mark, plain, takes, Plan, refuse, Made, look, store, Tally, tally, byChange, laidOut, toCpu, toTree, toChild, toWord, onTook, onBit, onGave, carried}
 use Rattle.rules.specs.Places.{classOf, fits, passTree, foundTree, placeTree, afterPass, afterSteal}
 use Rattle.rules.specs.Take.{get, ifOwnHolds, claimOwn, release, write, stealCount, nextChild, searchChild, searchWord, take}
-use Rattle.rules.specs.Ranges.{foundIn, placeIn, takingIn, stepRange}
+use Rattle.rules.specs.Ranges.{blockIn, foundIn, placeIn, takingIn, stepRange}
 use Rattle.rules.specs.Step.{act, step}
 use Rattle.rules.specs.Events.{Cpu, resting, orderOfBlock}
+use Rattle.rules.proofs.Sizes.{not-below, run-some, word-of}
 use Rattle.rules.proofs.Guards.{look-plan, tree-look-plan, taken-plan, passed-plan, given-plan, bit-plan, full-plan}
 use Rattle.rules.proofs.Falls.{to-come, come-high, pass-tree, found-tree, place-tree}
 use Rattle.rules.proofs.Shapes.{child-in, kids-most, kids-some}
@@ -128,13 +129,13 @@ module _ (n : ℕ) (z : Zone) (cs : ℕ → Cpu) (held lost : List Block) (u : U
   release-on p h = read-mine (placeTree p) _ _ (on-look j _ (place-next g j o z p (h .0) (h .1))) (λ b k m. on-cpu j _ _ (knows-own p _ (h .0), spent-own p _ (h .1)))
 
   -- a block begins at a multiple of its size
-  aligned : (b : Block) → orderOfBlock b ≡ o → firstOf b .0 % size o ≡ 0
-  aligned (Block.Base f) e = subst (λ q. f .0 % size q ≡ 0) e (omega arith)
-  aligned (Block.Whole h) e = subst (λ q. h .0 * childFrames % size q ≡ 0) e (omega arith)
+  aligned : (b : Block) → Passes (blockIn g b) → orderOfBlock b ≡ o → firstOf b .0 % size o ≡ 0
+  aligned (Block.Run v f) h e = subst (λ q. f .0 % size q ≡ 0) e (h .1 .0)
+  aligned (Block.Whole h) i e = subst (λ q. h .0 * childFrames % size q ≡ 0) e (omega arith)
 
-  last-on : (b : Block) → orderOfBlock b ≡ o → On (carried g z (take g j (Taking.Last b)))
+  last-on : (b : Block) → Passes (blockIn g b) → orderOfBlock b ≡ o → On (carried g z (take g j (Taking.Last b)))
   unfolding take
-  last-on b e = read-mine (treeOfBlock g b) _ _ (rw (look-plan g j (Answer.Done (firstOf b))) (aligned b e)) (λ x k m. on-cpu j _ _ (aligned b e))
+  last-on b h e = read-mine (treeOfBlock g b) _ _ (rw (look-plan g j (Answer.Done (firstOf b))) (aligned b h e)) (λ x k m. on-cpu j _ _ (aligned b h e))
 
   -- ---- what a store of a tree's entry leaves
 
@@ -310,6 +311,9 @@ module _ (n : ℕ) (z : Zone) (cs : ℕ → Cpu) (held lost : List Block) (u : U
     unfolding stored
     passed-on p s c a b q h = next-on z p s c a b (q .0) (q .1) (short-count (size o) (z .children) (z .words) (placeTree p .0 * perTree g + c) h)
 
+still-below : {a b c : ℕ} → (a < b → ⊥) → c < b → c < a
+still-below h k = omega arith
+
 -- the stages of the search, by order
 module _ (n : ℕ) (z : Zone) (cs : ℕ → Cpu) (held lost : List Block) (u : Up n z cs held lost) (j : ℕ) (l : j < length (z .cpus)) (idle : (i : ℕ) → j ≢ i → cs i ≡ resting) (p : Place) (s c : ℕ) (a : s < childrenOf (shaped n z) (placeTree p .0)) (b : c < childrenOf (shaped n z) (placeTree p .0)) where
   abbrev shape : Shape
@@ -330,26 +334,26 @@ module _ (n : ℕ) (z : Zone) (cs : ℕ → Cpu) (held lost : List Block) (u : U
   says-is : Says x
   says-is = says-entry x (u .lower .formed i inside)
 
-  abbrev Z : Plan → Type 0
-  Z = On n z cs held lost u j l Order.Zero
+  abbrev Z : Run → Plan → Type 0
+  Z v = On n z cs held lost u j l (Order.Run v)
 
   abbrev N : Plan → Type 0
   N = On n z cs held lost u j l Order.Nine
 
-  zero-on : cs j .latest ≡ Record.Get j (Taking.Child Order.Zero p s c) → So shape j Order.Zero z (Taking.Child Order.Zero p s c) → Z (carried shape z (take shape j (Taking.Child Order.Zero p s c)))
+  run-on : (v : Run) → cs j .latest ≡ Record.Get j (Taking.Child (Order.Run v) p s c) → So shape j (Order.Run v) z (Taking.Child (Order.Run v) p s c) → Z v (carried shape z (take shape j (Taking.Child (Order.Run v) p s c)))
   unfolding take searchChild lowOf
-  zero-on e q =
-      let free = true-count n z cs held lost u j l Order.Zero idle i inside (ap (λ r. lowOf shape r i) e) in
-      let W : Answer = get shape j (Taking.Word p s c 0) in
-      let X : Answer = nextChild shape j Order.Zero p s c in
-      let Q : Lowered Took → Type 0 = λ y. Z (toChild shape t c (onTook y W plain X)) in
-      let pass : freeOf (z .children) (z .words) i < 1 → Q (told Took.Passed) = λ h. rw (passed-plan shape t c W plain X) (passed-on n z cs held lost u j l Order.Zero idle p s c a b q h) in
-      read-child n z cs held lost u Z t c _ b (elim says-is [
-        | counts k w ↦ subst Q (sym (claim-counts 1 x k w)) (pick-elim Q (leb 1 k)
-            (λ d. rw (taken-plan shape t c (countWord (k - 1)) W plain X) (let m : k - 1 ≤ childFrames = omega (arith, count-fits x k w) in
-            (knows-child n z cs held lost u j l Order.Zero i k (k - 1) inside w m p (q .0), passed-child n z cs held lost u j l Order.Zero i k (k - 1) inside w m (t .0) s c (q .1), λ v y f g. absurd (omega arith))))
-            (λ d. pass (omega (arith, leb-false 1 k d, free, counts-entry x k w .2))))
-        | flagged w ↦ subst Q (sym (claim-flagged 1 x w)) (pass (omega (arith, free, flagged-entry x w .2)))
+  run-on v e q =
+      let free = true-count n z cs held lost u j l (Order.Run v) idle i inside (ap (λ r. lowOf shape r i) e) in
+      let W : Answer = get shape j (Taking.Word v p s c 0) in
+      let X : Answer = nextChild shape j (Order.Run v) p s c in
+      let Q : Lowered Took → Type 0 = λ y. Z v (toChild shape t c (onTook y W plain X)) in
+      let pass : freeOf (z .children) (z .words) i < runSize v → Q (told Took.Passed) = λ h. rw (passed-plan shape t c W plain X) (passed-on n z cs held lost u j l (Order.Run v) idle p s c a b q h) in
+      read-child n z cs held lost u (Z v) t c _ b (elim says-is [
+        | counts k w ↦ subst Q (sym (claim-counts (runSize v) x k w)) (pick-elim Q (leb (runSize v) k)
+            (λ d. rw (taken-plan shape t c (countWord (k - runSize v)) W plain X) (let m : k - runSize v ≤ childFrames = omega (arith, count-fits x k w) in
+            (knows-child n z cs held lost u j l (Order.Run v) i k (k - runSize v) inside w m p (q .0), passed-child n z cs held lost u j l (Order.Run v) i k (k - runSize v) inside w m (t .0) s c (q .1), λ a y f g. absurd (omega arith))))
+            (λ d. pass (omega (arith, leb-false (runSize v) k d, free, counts-entry x k w .2))))
+        | flagged w ↦ subst Q (sym (claim-flagged (runSize v) x w)) (pass (omega (arith, free, flagged-entry x w .2, run-some v)))
       ])
 
   nine-on : cs j .latest ≡ Record.Get j (Taking.Child Order.Nine p s c) → So shape j Order.Nine z (Taking.Child Order.Nine p s c) → N (carried shape z (take shape j (Taking.Child Order.Nine p s c)))
@@ -374,36 +378,37 @@ module _ (n : ℕ) (z : Zone) (cs : ℕ → Cpu) (held lost : List Block) (u : U
         | no r ↦ omega arith
       ]
 
-  word-on : (w : ℕ) → w < childWords → So shape j Order.Zero z (Taking.Word p s c w) → Z (carried shape z (take shape j (Taking.Word p s c w)))
+  word-on : (v : Run) (w : ℕ) → w < childWords → So shape j (Order.Run v) z (Taking.Word v p s c w) → Z v (carried shape z (take shape j (Taking.Word v p s c w)))
   unfolding take searchWord stored
-  word-on w h q =
+  word-on v w h q =
       let at-word : childWords * (t .0 * perTree shape) + (childWords * c + w) ≡ childWords * i + w = omega arith in
       let y : ℕ = getD (z .words) (childWords * i + w) 0 in
-      let A : ℕ → Answer = λ d. get shape j (Taking.Last (Block.Base (frameAt shape t c w d))) in
-      let M : ℕ → Mark = λ d. takes (Block.Base (frameAt shape t c w d)) in
-      let X : Answer = pick (ltb (suc w) childWords) (get shape j (Taking.Word p s c (suc w))) (get shape j (Taking.GiveBack p s c)) in
-      let Q : Lowered Bit → Type 0 = λ d. Z (toWord shape t (childWords * c + w) (onBit d A M X)) in
-      read-word n z cs held lost u Z t _ _ (omega (arith, b, h)) (subst (λ d. Q (takeRun 1 (getD (z .words) d 0))) (sym at-word) (elim (decLt (lowest 1 wordBits y) wordBits) [
-        | yes d ↦ subst Q (sym (take-run 1 y d)) (rw (bit-plan shape t (childWords * c + w) (1 * lowest 1 wordBits y) (y + ones 1 (1 * lowest 1 wordBits y)) A M X) tt)
-        | no d ↦ subst Q (sym (take-none 1 y (omega arith))) (rw (full-plan shape t (childWords * c + w) A M X) (go (λ v f m g. elim (ℕ-discrete v w) [
-          | yes r ↦ λ k. lowest-below 1 wordBits y f (omega arith) (ap (λ d. bits 1 (1 * f) (getD (z .words) (childWords * i + d) 0)) (sym r) ∙ k)
-          | no r ↦ q .2 v f (omega arith) g
+      let r : ℕ = runSize v in
+      let A : ℕ → Answer = λ d. get shape j (Taking.Last (Block.Run v (frameAt shape t c w d))) in
+      let M : ℕ → Mark = λ d. takes (Block.Run v (frameAt shape t c w d)) in
+      let X : Answer = pick (ltb (suc w) childWords) (get shape j (Taking.Word v p s c (suc w))) (get shape j (Taking.GiveBack v p s c)) in
+      let Q : Lowered Bit → Type 0 = λ d. Z v (toWord shape t (childWords * c + w) (onBit d A M X)) in
+      read-word n z cs held lost u (Z v) t _ _ (omega (arith, b, h)) (subst (λ d. Q (takeRun r (getD (z .words) d 0))) (sym at-word) (elim (decLt (lowest r (wordBits / r) y) (wordBits / r)) [
+        | yes d ↦ subst Q (sym (take-run r y d)) (rw (bit-plan shape t (childWords * c + w) (r * lowest r (wordBits / r) y) (y + ones r (r * lowest r (wordBits / r) y)) A M X) tt)
+        | no d ↦ subst Q (sym (take-none r y (not-below d))) (rw (full-plan shape t (childWords * c + w) A M X) (go (λ a f m g. elim (ℕ-discrete a w) [
+          | yes x ↦ λ k. lowest-below r (wordBits / r) y f (still-below d g) (ap (λ d. bits r (r * f) (getD (z .words) (childWords * i + d) 0)) (sym x) ∙ k)
+          | no x ↦ q .2 a f (omega arith) g
         ])))
       ]))
     where
-      go : Full shape j Order.Zero z (t .0) c (suc w) → On n z cs held lost u j l Order.Zero (refuse (pick (ltb (suc w) childWords) (get shape j (Taking.Word p s c (suc w))) (get shape j (Taking.GiveBack p s c))))
-      go f = pick-elim (Said n z cs held lost u j l Order.Zero z) (ltb (suc w) childWords) (λ d. (q .0, q .1, f))
-          (λ d. let k = ltb-false (suc w) childWords d in (q .0, q .1, short-words 1 wordBits (omega arith) (z .children) (z .words) i (λ v y m g. f v y (omega arith) g)))
+      go : Full shape j (Order.Run v) z (t .0) c (suc w) → On n z cs held lost u j l (Order.Run v) (refuse (pick (ltb (suc w) childWords) (get shape j (Taking.Word v p s c (suc w))) (get shape j (Taking.GiveBack v p s c))))
+      go f = pick-elim (Said n z cs held lost u j l (Order.Run v) z) (ltb (suc w) childWords) (λ d. (q .0, q .1, f))
+          (λ d. let k = ltb-false (suc w) childWords d in (q .0, q .1, short-words (runSize v) (wordBits / runSize v) (word-of v) (z .children) (z .words) i (λ a y m g. f a y (omega arith) g)))
 
-  give-back-on : cs j .latest ≡ Record.Get j (Taking.GiveBack p s c) → So shape j Order.Zero z (Taking.GiveBack p s c) → Z (carried shape z (take shape j (Taking.GiveBack p s c)))
+  give-back-on : (v : Run) → cs j .latest ≡ Record.Get j (Taking.GiveBack v p s c) → So shape j (Order.Run v) z (Taking.GiveBack v p s c) → Z v (carried shape z (take shape j (Taking.GiveBack v p s c)))
   unfolding take lowOf
-  give-back-on e q =
-      let y = under-way n z cs held lost u i j inside l (omega (arith, ap (λ r. lowOf shape r i) e, at-same i 1)) in
+  give-back-on v e q =
+      let y = under-way n z cs held lost u i j (runSize v) inside l (run-some v) (omega (arith, ap (λ r. lowOf shape r i) e, at-same i (runSize v))) in
       let k : ℕ = y .0 in
-      let X : Answer = nextChild shape j Order.Zero p s c in
-      let m : k + 1 ≤ childFrames = y .2 in
-      read-child n z cs held lost u Z t c _ b (subst (λ d. Z (toChild shape t c (onGave d X plain))) (sym (give-counts 1 x k (y .1) m)) (rw (given-plan shape t c (countWord (k + 1)) X plain)
-      (next-on n z cs held lost u j l Order.Zero (childed n z cs held lost u j l Order.Zero i k (k + 1) inside (y .1) m) p s c a b (knows-child n z cs held lost u j l Order.Zero i k (k + 1) inside (y .1) m p (q .0)) (passed-child n z cs held lost u j l Order.Zero i k (k + 1) inside (y .1) m (t .0) s c (q .1)) (shorts n z cs held lost u j l Order.Zero i k (k + 1) inside (y .1) m i (q .2)))))
+      let X : Answer = nextChild shape j (Order.Run v) p s c in
+      let m : k + runSize v ≤ childFrames = y .2 in
+      read-child n z cs held lost u (Z v) t c _ b (subst (λ d. Z v (toChild shape t c (onGave d X plain))) (sym (give-counts (runSize v) x k (y .1) m)) (rw (given-plan shape t c (countWord (k + runSize v)) X plain)
+      (next-on n z cs held lost u j l (Order.Run v) (childed n z cs held lost u j l (Order.Run v) i k (k + runSize v) inside (y .1) m) p s c a b (knows-child n z cs held lost u j l (Order.Run v) i k (k + runSize v) inside (y .1) m p (q .0)) (passed-child n z cs held lost u j l (Order.Run v) i k (k + runSize v) inside (y .1) m (t .0) s c (q .1)) (shorts n z cs held lost u j l (Order.Run v) i k (k + runSize v) inside (y .1) m i (q .2)))))
 
 -- ---- any stage
 
@@ -435,11 +440,11 @@ module _ (n : ℕ) (z : Zone) (cs : ℕ → Cpu) (held lost : List Block) (u : U
   carries (Taking.Write q a b) o f = by-order o q (λ q. Taking.Write q a b) f (λ q e h k. write-on n z cs held lost u j l q a b (found-tree here (omega arith) (u .some) j l a (passes-left (foundIn here j a) _ h)) k)
   carries (Taking.Steal q i) o f = by-order o q (λ q. Taking.Steal q i) f (λ q e h k. steal-on n z cs held lost u j l q i (h .0) k)
   carries (Taking.StealCount q i t a) o f = by-order o q (λ q. Taking.StealCount q i t a) f (λ q e h k. steal-count-on n z cs held lost u j l q idle i t a e (found-tree here (omega arith) (u .some) j l (Found.Steal i t) (passes-left (foundIn here j (Found.Steal i t)) _ h)) k)
-  carries (Taking.Child Order.Zero p s c) o f = subst (λ x. Carries x (Taking.Child Order.Zero p s c)) f (λ e h k. let m = passes-right (placeIn here j p) _ h in zero-on n z cs held lost u j l idle p s c (m .0) (m .1 .0) e k)
+  carries (Taking.Child (Order.Run v) p s c) o f = subst (λ x. Carries x (Taking.Child (Order.Run v) p s c)) f (λ e h k. let m = passes-right (placeIn here j p) _ h in run-on n z cs held lost u j l idle p s c (m .0) (m .1 .0) v e k)
   carries (Taking.Child Order.Nine p s c) o f = subst (λ x. Carries x (Taking.Child Order.Nine p s c)) f (λ e h k. let m = passes-right (placeIn here j p) _ h in nine-on n z cs held lost u j l idle p s c (m .0) (m .1 .0) e k)
-  carries (Taking.Word p s c w) o f = subst (λ x. Carries x (Taking.Word p s c w)) f (λ e h k. let m = passes-right (placeIn here j p) _ h in word-on n z cs held lost u j l idle p s c (m .0) (m .1 .0) w (m .1 .1 .0) k)
-  carries (Taking.GiveBack p s c) o f = subst (λ x. Carries x (Taking.GiveBack p s c)) f (λ e h k. let m = passes-right (placeIn here j p) _ h in give-back-on n z cs held lost u j l idle p s c (m .0) (m .1 .0) e k)
-  carries (Taking.Last b) o f = λ e h k. last-on n z cs held lost u j l o b f
+  carries (Taking.Word v p s c w) o f = subst (λ x. Carries x (Taking.Word v p s c w)) f (λ e h k. let m = passes-right (placeIn here j p) _ h in word-on n z cs held lost u j l idle p s c (m .0) (m .1 .0) v w (m .1 .1 .0) k)
+  carries (Taking.GiveBack v p s c) o f = subst (λ x. Carries x (Taking.GiveBack v p s c)) f (λ e h k. let m = passes-right (placeIn here j p) _ h in give-back-on n z cs held lost u j l idle p s c (m .0) (m .1 .0) v e k)
+  carries (Taking.Last b) o f = λ e h k. last-on n z cs held lost u j l o b h f
   carries (Taking.Fail q p) o f = by-order o q (λ q. Taking.Fail q p) f (λ q e h k. fail-on n z cs held lost u j l q p (place-in p h) k)
   carries Taking.NoRoom o f = λ e h k. no-room-on n z cs held lost u j l o idle e k
 

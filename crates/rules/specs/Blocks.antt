@@ -1,24 +1,37 @@
 -- Orders and blocks: their sizes, where they begin, and the tree and child that they lie in.
-use Prim.Native.Nat.{ℕ, _+_, _*_, _/_, _%_}
+use Prim.Native.Nat.{ℕ, _+_, _*_, _/_, _%_, _^_}
 use Rattle.rules.specs.Numbers.{childFrames, wordBits, Shape, perTree}
 use Rattle.rules.specs.Conversions.{frame, hugeOf, firstFrame, treeOf, childOf}
-use Rattle.rules.specs.Types.{Frame, Huge, Tree, Order, Block}
+use Rattle.rules.specs.Types.{Frame, Huge, Tree, Run, Order, Block}
 
--- the size of a claim: one base frame, or a huge frame
+-- a run has 2 ^ k frames, k its order
+abbrev pub exponent : Run → ℕ
+exponent Run.One = 0
+exponent Run.Two = 1
+exponent Run.Four = 2
+exponent Run.Eight = 3
+exponent Run.Sixteen = 4
+exponent Run.ThirtyTwo = 5
+exponent Run.SixtyFour = 6
+
+unfoldable pub runSize : Run → ℕ
+runSize r = 2 ^ exponent r
+
+-- the size of a claim: a run, or a huge frame
 abbrev pub size : Order → ℕ
-size Order.Zero = 1
+size (Order.Run r) = runSize r
 size Order.Nine = childFrames
 
 abbrev pub sizeOf : Block → ℕ
-sizeOf (Block.Base f) = size Order.Zero
-sizeOf (Block.Whole h) = size Order.Nine
+sizeOf (Block.Run r f) = runSize r
+sizeOf (Block.Whole h) = childFrames
 
 abbrev pub firstOf : Block → Frame
-firstOf (Block.Base f) = f
+firstOf (Block.Run r f) = f
 firstOf (Block.Whole h) = firstFrame h
 
 abbrev pub hugeOfBlock : Block → Huge
-hugeOfBlock (Block.Base f) = hugeOf f
+hugeOfBlock (Block.Run r f) = hugeOf f
 hugeOfBlock (Block.Whole h) = h
 
 abbrev pub treeOfBlock : Shape → Block → Tree
@@ -29,7 +42,7 @@ childOfBlock g b = childOf (g .format) (hugeOfBlock b)
 
 -- the block of an order that begins at a frame
 abbrev pub blockAt : Order → Frame → Block
-blockAt Order.Zero f = Block.Base f
+blockAt (Order.Run r) f = Block.Run r f
 blockAt Order.Nine f = Block.Whole (hugeOf f)
 
 -- the word and the bit of a frame: the word's number among the words of its child

@@ -60,15 +60,15 @@ module _ (g : Shape) where
   takingLeft (Taking.Steal o j) = at (stealRank j) 3
   takingLeft (Taking.StealCount o j t h) = at (stealRank j) 2
   takingLeft (Taking.Child o p s c) = searching p (4 + childSteps * toCome (placeTree p .0) s c)
-  takingLeft (Taking.Word p s c w) = searching p (3 + childSteps * toCome (placeTree p .0) s c - w)
-  takingLeft (Taking.GiveBack p s c) = searching p (childSteps * toCome (placeTree p .0) s c - 5)
+  takingLeft (Taking.Word r p s c w) = searching p (3 + childSteps * toCome (placeTree p .0) s c - w)
+  takingLeft (Taking.GiveBack r p s c) = searching p (childSteps * toCome (placeTree p .0) s c - 5)
   takingLeft (Taking.Last b) = 1
   takingLeft (Taking.Fail o p) = searching p 4
   takingLeft Taking.NoRoom = 1
 
   unfoldable pub givingLeft : Giving → ℕ
   givingLeft (Giving.Clear b) = 3
-  givingLeft (Giving.Raise f) = 2
+  givingLeft (Giving.Raise r f) = 2
   givingLeft (Giving.ToEntry b) = 1
   givingLeft (Giving.ToTree b) = 0
 

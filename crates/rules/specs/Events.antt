@@ -4,7 +4,7 @@ use mathlib.Core.List.{List, [], _∷_, _++_}
 use Prim.Native.Nat.{ℕ, zero, suc, _≤_, _<_}
 use lib.ListN.{length, getD}
 use Rattle.laws.specs.Sum.{upd}
-use Rattle.rules.specs.Types.{Order, Block, Record, Answer}
+use Rattle.rules.specs.Types.{Run, Order, Block, Record, Answer}
 use Rattle.rules.specs.Numbers.{mostCpus, treesOf}
 use Rattle.rules.specs.Conversions.{frame}
 use Rattle.rules.specs.Blocks.{firstOf, blockAt}
@@ -87,7 +87,7 @@ without (b ∷ l) zero = l
 without (b ∷ l) (suc i) = b ∷ without l i
 
 abbrev pub heldAt : State → ℕ → Block
-heldAt s i = getD (s .held) i (Block.Base (frame 0))
+heldAt s i = getD (s .held) i (Block.Run Run.One (frame 0))
 
 -- ---- calls
 
@@ -102,7 +102,7 @@ pub data Call : Type 0 where
 
 -- the order that a block was got with
 abbrev pub orderOfBlock : Block → Order
-orderOfBlock (Block.Base f) = Order.Zero
+orderOfBlock (Block.Run r f) = Order.Run r
 orderOfBlock (Block.Whole h) = Order.Nine
 
 abbrev pub openRecord : Phase → Record

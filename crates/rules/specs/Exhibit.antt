@@ -3,7 +3,7 @@ use mathlib.Core.Path.{_≡_}
 use mathlib.Core.List.{List, [], _∷_, _++_}
 use Prim.Native.Nat.{ℕ}
 use lib.ListN.{length, replicate}
-use Rattle.rules.specs.Types.{Order, Block, Taking, Opening, Record}
+use Rattle.rules.specs.Types.{Run, Order, Block, Taking, Opening, Record}
 use Rattle.rules.specs.Conversions.{frame, tree}
 use Rattle.rules.specs.Zone.{Zone, shaped}
 use Rattle.rules.specs.Create.{createSteps}
@@ -86,7 +86,7 @@ toEnd = toClosed ++ reopened
 -- ---- what the history shows
 
 abbrev pub base : ℕ → Block
-base i = Block.Base (frame i)
+base i = Block.Run Run.One (frame i)
 
 -- the phase of a state, its held and its lost blocks
 pub record Stands (s : State) (p : Phase) (a b : List Block) : Type 0 where
@@ -96,7 +96,7 @@ pub record Stands (s : State) (p : Phase) (a b : List Block) : Type 0 where
 
 pub record Shows (s : State) : Type 0 where
   -- CPU 1 has taken CPU 0's entry, and holds its 511 frames in hand
-  pub steals : history toSteal s .cpus 1 .latest ≡ Record.Get 1 (Taking.StealCount Order.Zero 0 (tree 0) 511)
+  pub steals : history toSteal s .cpus 1 .latest ≡ Record.Get 1 (Taking.StealCount (Order.Run Run.One) 0 (tree 0) 511)
   pub stolen : Stands (history toStolen s) ready (base 1 ∷ base 0 ∷ []) []
   -- the get's block, which nobody was handed, and the put's block, which is not free
   pub lost : Stands (history toLost s) down (base 0 ∷ []) (base 2 ∷ base 1 ∷ [])

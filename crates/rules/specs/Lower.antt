@@ -79,7 +79,7 @@ takeRun s w =
     let i : ℕ = lowest s (wordBits / s) w in
     pick (ltb i (wordBits / s)) (changed (Bit.At (s * i)) (w + ones s (s * i))) (told Bit.Full)
 
--- giving back, order 0: the run of s bits from b on is cleared
+-- giving back: the run of s bits from b on is cleared
 unfoldable pub clearRun : ℕ → ℕ → ℕ → Lowered Gave
 clearRun s b w = pick (eqb (bits s b w) (2 ^ s - 1)) (changed Gave.Given (w - ones s b)) (told Gave.NotTaken)
 

@@ -1,8 +1,9 @@
 -- Which numbers a record may hold: outside of them, and at a finished or another operation's record, a step answers 11 (D1, D27 to D29).
 use mathlib.Core.List.{List, [], _∷_, _++_}
-use Prim.Native.Nat.{ℕ, suc, _+_, _*_, _/_}
+use Prim.Native.Nat.{ℕ, suc, _+_, _*_, _/_, _%_}
 use Rattle.laws.specs.Tests.{Check, _below_, _is_, _isnt_}
 use Rattle.rules.specs.Numbers.{childFrames, childWords, nearTrees, Shape, treesOf, childrenOf, capacity}
+use Rattle.rules.specs.Blocks.{runSize}
 use Rattle.rules.specs.Places.{placeTree, foundTree}
 use Rattle.rules.specs.Types.{Frame, Huge, Tree, Block, Pass, Found, Place, Taking, Giving, Creating, Opening, Record}
 
@@ -27,8 +28,9 @@ module _ (g : Shape) where
   abbrev pub hugeIn : Huge → List Check
   hugeIn h = h .0 below g .huge ∷ []
 
+  -- a run begins at a multiple of its size
   abbrev pub blockIn : Block → List Check
-  blockIn (Block.Base f) = frameIn f
+  blockIn (Block.Run r f) = frameIn f ++ f .0 % runSize r is 0 ∷ []
   blockIn (Block.Whole h) = hugeIn h
 
   abbrev pub cpuIn : ℕ → List Check
@@ -66,15 +68,15 @@ module _ (g : Shape) where
   takingIn cpu (Taking.Steal o j) = stealIn cpu j
   takingIn cpu (Taking.StealCount o j t h) = foundIn cpu (Found.Steal j t) ++ handIn t h
   takingIn cpu (Taking.Child o p s c) = placeIn cpu p ++ (childIn (placeTree p) s ++ childIn (placeTree p) c)
-  takingIn cpu (Taking.Word p s c w) = placeIn cpu p ++ (childIn (placeTree p) s ++ (childIn (placeTree p) c ++ w below childWords ∷ []))
-  takingIn cpu (Taking.GiveBack p s c) = placeIn cpu p ++ (childIn (placeTree p) s ++ childIn (placeTree p) c)
+  takingIn cpu (Taking.Word r p s c w) = placeIn cpu p ++ (childIn (placeTree p) s ++ (childIn (placeTree p) c ++ w below childWords ∷ []))
+  takingIn cpu (Taking.GiveBack r p s c) = placeIn cpu p ++ (childIn (placeTree p) s ++ childIn (placeTree p) c)
   takingIn cpu (Taking.Last b) = blockIn b
   takingIn cpu (Taking.Fail o p) = placeIn cpu p
   takingIn cpu Taking.NoRoom = []
 
   unfoldable pub givingIn : Giving → List Check
   givingIn (Giving.Clear b) = blockIn b
-  givingIn (Giving.Raise f) = frameIn f
+  givingIn (Giving.Raise r f) = blockIn (Block.Run r f)
   givingIn (Giving.ToEntry b) = blockIn b
   givingIn (Giving.ToTree b) = blockIn b
 

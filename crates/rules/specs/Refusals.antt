@@ -3,7 +3,7 @@ use mathlib.Core.Path.{_≡_}
 use mathlib.Core.Logic.{_⊎_, _≢_}
 use mathlib.Core.Bool.{false}
 use mathlib.Core.List.{List, [], _∷_, _++_}
-use Prim.Native.Nat.{ℕ, _+_, _*_, _%_, _≤_, _<_}
+use Prim.Native.Nat.{ℕ, _+_, _*_, _%_, _^_, _≤_, _<_}
 use lib.ListN.{length, getD}
 use Rattle.laws.specs.Tests.{Passes}
 use Rattle.laws.specs.Sum.{sumTo}
@@ -11,7 +11,7 @@ use Rattle.laws.specs.Words.{bit}
 use Rattle.rules.specs.Types.{Frame, Tree, Block, ChildEntry, TreeEntry, CpuEntry, Taking, Giving, Opening, Record}
 use Rattle.rules.specs.Numbers.{childFrames, childWords, Shape, treesOf, childrenOf, capacity}
 use Rattle.rules.specs.Conversions.{huge, tree}
-use Rattle.rules.specs.Blocks.{size, sizeOf, treeOfBlock, childOfBlock, wordOf, bitOf}
+use Rattle.rules.specs.Blocks.{runSize, size, sizeOf, treeOfBlock, childOfBlock, wordOf, bitOf}
 use Rattle.rules.specs.Answers.{number}
 use Rattle.rules.specs.Entries.{headerChecks, markerOf, running, clean}
 use Rattle.rules.specs.Lower.{childSays}
@@ -67,10 +67,10 @@ openRules z = 8 when HeaderMissing z ∷ 9 when NotAZone z ∷ 10 when IsClosed 
 -- ---- 7, 3, 4, 5: a beginning
 
 abbrev pub getRules : Zone → ℕ → ℕ → List Rule
-getRules z cpu o = openRules z ++ (7 when (length (z .cpus) ≤ cpu) ∷ 3 when ((o ≢ 0) × (o ≢ 9)) ∷ [])
+getRules z cpu o = openRules z ++ (7 when (length (z .cpus) ≤ cpu) ∷ 3 when ((6 < o) × (o ≢ 9)) ∷ [])
 
 abbrev pub frameRules : Zone → Frame → ℕ → List Rule
-frameRules z f o = 4 when (childFrames * shapeOf z .huge ≤ f .0) ∷ 5 when ((o ≡ 9) × (f .0 % childFrames ≢ 0)) ∷ []
+frameRules z f o = 4 when (childFrames * shapeOf z .huge ≤ f .0) ∷ 5 when (f .0 % 2 ^ o ≢ 0) ∷ []
 
 abbrev pub putRules : Zone → ℕ → Frame → ℕ → List Rule
 putRules z cpu f o = getRules z cpu o ++ frameRules z f o
@@ -121,8 +121,8 @@ module _ (g : Shape) (z : Zone) where
   takingReads j (Taking.Steal o i) = cpuAt i
   takingReads j (Taking.StealCount o i t h) = treeAt t
   takingReads j (Taking.Child o p s c) = childOf (placeTree p) c
-  takingReads j (Taking.Word p s c w) = wordOfTree (placeTree p) (childWords * c + w)
-  takingReads j (Taking.GiveBack p s c) = childOf (placeTree p) c
+  takingReads j (Taking.Word r p s c w) = wordOfTree (placeTree p) (childWords * c + w)
+  takingReads j (Taking.GiveBack r p s c) = childOf (placeTree p) c
   takingReads j (Taking.Last b) = cpuAt j
   takingReads j (Taking.Fail o p) = treeAt (placeTree p)
   takingReads j Taking.NoRoom = noEntry
@@ -141,30 +141,31 @@ module _ (g : Shape) (z : Zone) where
   TakingPasses j (Taking.Steal o i) = ⊥
   TakingPasses j (Taking.StealCount o i t h) = TreePasses t h
   TakingPasses j (Taking.Child o p s c) = ⊥
-  TakingPasses j (Taking.Word p s c w) = ⊥
-  TakingPasses j (Taking.GiveBack p s c) = ChildPasses (placeTree p) c 1
+  TakingPasses j (Taking.Word r p s c w) = ⊥
+  TakingPasses j (Taking.GiveBack r p s c) = ChildPasses (placeTree p) c (runSize r)
   TakingPasses j (Taking.Last b) = ⊥
   TakingPasses j (Taking.Fail o p) = TreePasses (placeTree p) (size o)
   TakingPasses j Taking.NoRoom = ⊥
 
   abbrev pub givingReads : ℕ → Giving → Reads
-  givingReads j (Giving.Clear (Block.Base f)) = wordOfTree (treeOfBlock g (Block.Base f)) (childWords * childOfBlock g (Block.Base f) + wordOf f)
+  givingReads j (Giving.Clear (Block.Run r f)) = wordOfTree (treeOfBlock g (Block.Run r f)) (childWords * childOfBlock g (Block.Run r f) + wordOf f)
   givingReads j (Giving.Clear (Block.Whole h)) = childOf (treeOfBlock g (Block.Whole h)) (childOfBlock g (Block.Whole h))
-  givingReads j (Giving.Raise f) = childOf (treeOfBlock g (Block.Base f)) (childOfBlock g (Block.Base f))
+  givingReads j (Giving.Raise r f) = childOf (treeOfBlock g (Block.Run r f)) (childOfBlock g (Block.Run r f))
   givingReads j (Giving.ToEntry b) = cpuAt j
   givingReads j (Giving.ToTree b) = treeAt (treeOfBlock g b)
 
   abbrev pub GivingPasses : ℕ → Giving → Type 0
   GivingPasses j (Giving.Clear b) = ⊥
-  GivingPasses j (Giving.Raise f) = ChildPasses (treeOfBlock g (Block.Base f)) (childOfBlock g (Block.Base f)) 1
+  GivingPasses j (Giving.Raise r f) = ChildPasses (treeOfBlock g (Block.Run r f)) (childOfBlock g (Block.Run r f)) (runSize r)
   GivingPasses j (Giving.ToEntry b) = CpuPasses j (treeOfBlock g b) (sizeOf b)
   GivingPasses j (Giving.ToTree b) = TreePasses (treeOfBlock g b) (sizeOf b)
 
-  -- 6: order 0, the bit is clear; order 9, a is clear
+  -- 6: a bit of the run is clear; order 9, a is clear
   abbrev pub GivingFree : Giving → Type 0
-  GivingFree (Giving.Clear (Block.Base f)) = bit (bitOf f) (getD (wordPart g z (treeOfBlock g (Block.Base f))) (childWords * childOfBlock g (Block.Base f) + wordOf f) 0) ≡ 0
+  GivingFree (Giving.Clear (Block.Run r f)) =
+      (i : ℕ) × (i < runSize r) × (bit (bitOf f + i) (getD (wordPart g z (treeOfBlock g (Block.Run r f))) (childWords * childOfBlock g (Block.Run r f) + wordOf f) 0) ≡ 0)
   GivingFree (Giving.Clear (Block.Whole h)) = (k : ℕ) × (childEntryAt (treeOfBlock g (Block.Whole h)) (childOfBlock g (Block.Whole h)) ≡ ChildEntry.Counts k)
-  GivingFree (Giving.Raise f) = ⊥
+  GivingFree (Giving.Raise r f) = ⊥
   GivingFree (Giving.ToEntry b) = ⊥
   GivingFree (Giving.ToTree b) = ⊥
 

@@ -5,12 +5,12 @@ use lib.Dec.{eqb, leb, ltb}
 use Rattle.laws.specs.Tests.{pick}
 use Rattle.rules.specs.Numbers.{childWords, Shape, perTree, childrenOf, capacity}
 use Rattle.rules.specs.Conversions.{tree, huge}
-use Rattle.rules.specs.Blocks.{size, firstOf, treeOfBlock, childOfBlock, frameAt}
+use Rattle.rules.specs.Blocks.{runSize, size, firstOf, treeOfBlock, childOfBlock, frameAt}
 use Rattle.rules.specs.Entries.{released, stolen}
 use Rattle.rules.specs.Lower.{claim, takeHuge, giveCount, takeRun}
 use Rattle.rules.specs.Plan.{plain, takes, Made, look, store, tally, Step, noEntry, cpuEntry, treeEntry, childEntry, wordEntry, onTook, onBit, onGave}
 use Rattle.rules.specs.Places.{classOf, fits, passTree, foundTree, placeTree, afterPass, afterSteal, afterPlace}
-use Rattle.rules.specs.Types.{Tree, Order, Block, CpuEntry, Pass, Found, Place, Taking, Record, Answer}
+use Rattle.rules.specs.Types.{Tree, Run, Order, Block, CpuEntry, Pass, Found, Place, Taking, Record, Answer}
 
 module _ (g : Shape) (cpu : ℕ) where
   abbrev pub get : Taking → Answer
@@ -42,19 +42,19 @@ module _ (g : Shape) (cpu : ℕ) where
       let d : ℕ = pick (eqb (suc c) (childrenOf g (placeTree p .0))) 0 (suc c) in
       pick (eqb d s) (get (Taking.Fail o p)) (get (Taking.Child o p s d))
 
-  -- rule 5: a claim of one frame, or the taking store of a huge frame
+  -- rule 5: the claim of a run, or the taking store of a huge frame
   unfoldable pub searchChild : Order → Place → ℕ → ℕ → ℕ → Made ℕ
-  searchChild Order.Zero p s c x = onTook (claim (size Order.Zero) x) (get (Taking.Word p s c 0)) plain (nextChild Order.Zero p s c)
+  searchChild (Order.Run r) p s c x = onTook (claim (runSize r) x) (get (Taking.Word r p s c 0)) plain (nextChild (Order.Run r) p s c)
   searchChild Order.Nine p s c x =
       let b : Block = Block.Whole (huge (placeTree p .0 * perTree g + c)) in
       onTook (takeHuge x) (get (Taking.Last b)) (takes b) (nextChild Order.Nine p s c)
 
-  -- rule 5: words 0 to 7; the lowest zero bit of the first word that has one is set, the taking store
-  unfoldable pub searchWord : Place → ℕ → ℕ → ℕ → ℕ → Made ℕ
-  searchWord p s c w x = onBit (takeRun (size Order.Zero) x)
-      (λ b. get (Taking.Last (Block.Base (frameAt g (placeTree p) c w b))))
-      (λ b. takes (Block.Base (frameAt g (placeTree p) c w b)))
-      (pick (ltb (suc w) childWords) (get (Taking.Word p s c (suc w))) (get (Taking.GiveBack p s c)))
+  -- rule 5: words 0 to 7; the lowest free run of the first word that has one is set, the taking store
+  unfoldable pub searchWord : Run → Place → ℕ → ℕ → ℕ → ℕ → Made ℕ
+  searchWord r p s c w x = onBit (takeRun (runSize r) x)
+      (λ b. get (Taking.Last (Block.Run r (frameAt g (placeTree p) c w b))))
+      (λ b. takes (Block.Run r (frameAt g (placeTree p) c w b)))
+      (pick (ltb (suc w) childWords) (get (Taking.Word r p s c (suc w))) (get (Taking.GiveBack r p s c)))
 
   unfoldable pub take : Taking → Step
   -- rule 1: an absent entry; one with count at least s; one that is short
@@ -79,9 +79,9 @@ module _ (g : Shape) (cpu : ℕ) where
   -- rule 4: the tree's count is added and 0 left there; a sum above the capacity is refused, though the count stored is 0 (D9, D39)
   take (Taking.StealCount o j t h) = treeEntry t (λ r k. pick (leb (h + k) (capacity g (t .0))) (store (tally r 0) (stealCount o j t (h + k))) (look Answer.Damaged))
   take (Taking.Child o p s c) = childEntry (placeTree p) c (searchChild o p s c)
-  take (Taking.Word p s c w) = wordEntry (placeTree p) (childWords * c + w) (searchWord p s c w)
-  -- rule 5: eight full words; the count is given back, and the next child follows (D12)
-  take (Taking.GiveBack p s c) = childEntry (placeTree p) c (λ x. onGave (giveCount (size Order.Zero) x) (nextChild Order.Zero p s c) plain)
+  take (Taking.Word r p s c w) = wordEntry (placeTree p) (childWords * c + w) (searchWord r p s c w)
+  -- rule 5: eight words without a free run; the count is given back, and the next child follows (D12)
+  take (Taking.GiveBack r p s c) = childEntry (placeTree p) c (λ x. onGave (giveCount (runSize r) x) (nextChild (Order.Run r) p s c) plain)
   -- rule 6: that child as start child, if the entry still holds the tree; and the answer (D18)
   take (Taking.Last b) = ifOwnHolds (treeOfBlock g b) (λ s k. store (CpuEntry.Holds (treeOfBlock g b) (childOfBlock g b) k) (Answer.Done (firstOf b))) (look (Answer.Done (firstOf b)))
   -- rule 7: s to the tree's count; then the release

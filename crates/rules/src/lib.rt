@@ -2,6 +2,8 @@
 ghost use mathlib.Core.Path.{_≡_};
 ghost use Rattle.rules.specs.Numbers.{format1};
 ghost use Rattle.rules.specs.Conversions.{firstFrame, hugeAt, firstHuge, treeAt};
+ghost use Rattle.rules.specs.Blocks.{exponent, runSize};
+ghost use Rattle.rules.specs.Begin.{runOf};
 
 // ---- numbers: a frame, a huge frame, a tree; none stands in for another
 
@@ -61,14 +63,69 @@ pub fn tree_of(huge: Huge) -> TreeAt
 
 // ---- orders and blocks
 
+// Orders 0 to 6: one base frame, or a run of 2 to 64, naturally aligned, in one word.
+pub enum Run {
+    One,
+    Two,
+    Four,
+    Eight,
+    Sixteen,
+    ThirtyTwo,
+    SixtyFour,
+}
+
+// The frames of a run.
+pub fn frames_of(run: Run) -> u16
+    ensures { λ r. ⌜ r ≡ runSize run ⌝ }
+{
+    match run {
+        Run::One => 1,
+        Run::Two => 2,
+        Run::Four => 4,
+        Run::Eight => 8,
+        Run::Sixteen => 16,
+        Run::ThirtyTwo => 32,
+        Run::SixtyFour => 64,
+    }
+}
+
+// Its order, 0 to 6; and the run of an order.
+pub fn order_of(run: Run) -> u8
+    ensures { λ r. ⌜ r ≡ exponent run ⌝ }
+{
+    match run {
+        Run::One => 0,
+        Run::Two => 1,
+        Run::Four => 2,
+        Run::Eight => 3,
+        Run::Sixteen => 4,
+        Run::ThirtyTwo => 5,
+        Run::SixtyFour => 6,
+    }
+}
+
+pub fn run_of(order: u64) -> Run
+    ensures { λ r. ⌜ r ≡ runOf order ⌝ }
+{
+    match order {
+        0 => Run::One,
+        1 => Run::Two,
+        2 => Run::Four,
+        3 => Run::Eight,
+        4 => Run::Sixteen,
+        5 => Run::ThirtyTwo,
+        _ => Run::SixtyFour,
+    }
+}
+
 pub enum Order {
-    Zero,
+    Run(Run),
     Nine,
 }
 
-// A block of order 0 is named by its frame, one of order 9 by its huge frame.
+// A run is named by its first frame, a block of order 9 by its huge frame.
 pub enum Block {
-    Base(Frame),
+    Run { run: Run, first: Frame },
     Whole(Huge),
 }
 
@@ -107,7 +164,7 @@ pub enum Took {
     Damaged,
 }
 
-// The taking of a word's lowest zero bit.
+// The taking of a word's lowest free run: its first bit.
 pub enum Bit {
     At(u8),
     Full,
@@ -202,12 +259,14 @@ pub enum Taking {
         child: u8,
     },
     Word {
+        run: Run,
         place: Place,
         start: u8,
         child: u8,
         word: u8,
     },
     GiveBack {
+        run: Run,
         place: Place,
         start: u8,
         child: u8,
@@ -225,7 +284,7 @@ pub enum Taking {
 
 pub enum Giving {
     Clear(Block),
-    Raise(Frame),
+    Raise { run: Run, first: Frame },
     ToEntry(Block),
     ToTree(Block),
 }

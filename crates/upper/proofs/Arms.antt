@@ -8,6 +8,7 @@ use borrow.Author.Tests.{lt-ltb}
 use Rattle.laws.specs.Tests.{Check, _below_, Passes}
 use Rattle.laws.specs.Tables.{Outcome, outcome}
 use Rattle.laws.proofs.Tests.{pick-yes, passes-of, passes-left, passes-right}
+use Rattle.rules.specs.declared.Run.{Run}
 use Rattle.rules.specs.declared.Block.{Block}
 use Rattle.rules.specs.declared.Place.{Place}
 use Rattle.rules.specs.declared.Taking.{Taking}
@@ -43,15 +44,15 @@ Stands g (wordEntry t i f) = (t .0 < treesOf g) × (i < childWords * childrenOf 
 
 module _ (s : Shape) (cpu : ℕ) where
   huge-in : (b : Block) → Passes (blockIn (shapeOf s) b) → hugeOfBlock b .0 < shapeOf s .huge
-  huge-in (Block.Base f) h = let l = h .0 in omega arith
+  huge-in (Block.Run v f) h = let l = h .0 in omega arith
   huge-in (Block.Whole i) h = h .0
 
   block-stands : (b : Block) → Passes (blockIn (shapeOf s) b) → (treeOfBlock (shapeOf s) b .0 < treesOf (shapeOf s)) × (childOfBlock (shapeOf s) b < childrenOf (shapeOf s) (treeOfBlock (shapeOf s) b .0))
   block-stands b h = let l = huge-in b h in (tree-in (shapeOf s) (omega arith) (hugeOfBlock b .0) l, number-in (shapeOf s) (omega arith) (hugeOfBlock b .0) l)
 
-  word-of-eight : (p : Place) (i k w : ℕ) → Passes (takingIn (shapeOf s) cpu (Taking.Word p i k w)) → w < childWords
+  word-of-eight : (v : Run) (p : Place) (i k w : ℕ) → Passes (takingIn (shapeOf s) cpu (Taking.Word v p i k w)) → w < childWords
   unfolding takingIn
-  word-of-eight p i k w h = passes-right (placeIn (shapeOf s) cpu p) _ h .1 .1 .0
+  word-of-eight v p i k w h = passes-right (placeIn (shapeOf s) cpu p) _ h .1 .1 .0
 
   child-stands : (p : Place) (i k : ℕ) (l : List Check) → cpu < s .cpus → Passes (placeIn (shapeOf s) cpu p ++ (childIn (shapeOf s) (placeTree p) i ++ (childIn (shapeOf s) (placeTree p) k ++ l)))
       → (placeTree p .0 < treesOf (shapeOf s)) × (k < childrenOf (shapeOf s) (placeTree p .0))
@@ -71,17 +72,17 @@ module _ (s : Shape) (cpu : ℕ) where
   take-stands (Taking.Steal o j) h = h .1 .0
   take-stands (Taking.StealCount o j t x) h = h .1 .1 .1 .0
   take-stands (Taking.Child o p i k) h = child-stands p i k [] (h .0) (h .1)
-  take-stands (Taking.Word p i k w) h = let l = child-stands p i k (w below childWords ∷ []) (h .0) (h .1) in (l .0, omega (arith, l .1, word-of-eight p i k w (h .1)))
-  take-stands (Taking.GiveBack p i k) h = child-stands p i k [] (h .0) (h .1)
+  take-stands (Taking.Word v p i k w) h = let l = child-stands p i k (w below childWords ∷ []) (h .0) (h .1) in (l .0, omega (arith, l .1, word-of-eight v p i k w (h .1)))
+  take-stands (Taking.GiveBack v p i k) h = child-stands p i k [] (h .0) (h .1)
   take-stands (Taking.Last b) h = h .0
   take-stands (Taking.Fail o p) h = place-tree (shapeOf s) (omega arith) (omega arith) cpu (h .0) p (h .1)
   take-stands Taking.NoRoom h = tt
 
   give-stands : (stage : Giving) → Passes (cpuIn (shapeOf s) cpu ++ givingIn (shapeOf s) stage) → Stands (shapeOf s) (give (shapeOf s) cpu stage)
   unfolding give clear givingIn
-  give-stands (Giving.Clear (Block.Base f)) h = let l = block-stands (Block.Base f) (h .1) in (l .0, omega (arith, l .1))
+  give-stands (Giving.Clear (Block.Run v f)) h = let l = block-stands (Block.Run v f) (h .1) in (l .0, omega (arith, l .1))
   give-stands (Giving.Clear (Block.Whole i)) h = block-stands (Block.Whole i) (h .1)
-  give-stands (Giving.Raise f) h = block-stands (Block.Base f) (h .1)
+  give-stands (Giving.Raise v f) h = block-stands (Block.Run v f) (h .1)
   give-stands (Giving.ToEntry b) h = h .0
   give-stands (Giving.ToTree b) h = block-stands b (h .1) .0
 
@@ -90,7 +91,7 @@ module _ (s : Shape) (cpu : ℕ) where
 -- the block that a put gives back
 abbrev pub givenBack : Giving → Block
 givenBack (Giving.Clear b) = b
-givenBack (Giving.Raise f) = Block.Base f
+givenBack (Giving.Raise v f) = Block.Run v f
 givenBack (Giving.ToEntry b) = b
 givenBack (Giving.ToTree b) = b
 
@@ -102,13 +103,13 @@ module _ (s : Shape) (f : List ℕ → Outcome Answer) (l : List ℕ) where
   given-in : (x : Giving) → Passes (givingIn (shapeOf s) x) → ranged (shapeOf s) (givenBack x) f l ≡ f l
   unfolding givingIn
   given-in (Giving.Clear b) h = block-in b h
-  given-in (Giving.Raise i) h = block-in (Block.Base i) h
+  given-in (Giving.Raise v i) h = block-in (Block.Run v i) h
   given-in (Giving.ToEntry b) h = block-in b h
   given-in (Giving.ToTree b) h = block-in b h
 
-  word-in : (cpu : ℕ) (p : Place) (i k w : ℕ) → Passes (takingIn (shapeOf s) cpu (Taking.Word p i k w)) → eighth w f l ≡ f l
+  word-in : (cpu : ℕ) (v : Run) (p : Place) (i k w : ℕ) → Passes (takingIn (shapeOf s) cpu (Taking.Word v p i k w)) → eighth w f l ≡ f l
   unfolding eighth
-  word-in cpu p i k w h = pick-yes _ _ _ (lt-ltb w childWords (word-of-eight s cpu p i k w h))
+  word-in cpu v p i k w h = pick-yes _ _ _ (lt-ltb w childWords (word-of-eight s cpu v p i k w h))
 
 -- a search for a claim of a known order
 pub child-of : {stage : Taking} {o q : Order} {p : Place} {i k : ℕ} → stage ≡ Taking.Child o p i k → o ≡ q → stage ≡ Taking.Child q p i k
@@ -179,10 +180,10 @@ module _ {s : Shape} {ws cs ts ps : List ℕ} (cpu : ℕ) (stage : Taking) (h : 
         → Carries s (zone [] ws cs ts ps) (take (shapeOf s) cpu stage) (result r (zone [] ws m ts ps))
     get-child e q o = arm-child take-ready (ap (take (shapeOf s) cpu) e) q o
 
-    pub get-word : {p : Place} {i k w : ℕ} → stage ≡ Taking.Word p i k w → outcome r m ≡ eighth w (inWords (shapeOf s) (take (shapeOf s) cpu (Taking.Word p i k w))) ws
+    pub get-word : {v : Run} {p : Place} {i k w : ℕ} → stage ≡ Taking.Word v p i k w → outcome r m ≡ eighth w (inWords (shapeOf s) (take (shapeOf s) cpu (Taking.Word v p i k w))) ws
         → Carries s (zone [] ws cs ts ps) (take (shapeOf s) cpu stage) (result r (zone [] m cs ts ps))
     unfolding take
-    get-word {p} {i} {k} {w} e o = arm-word take-ready (ap (take (shapeOf s) cpu) e) refl (o ∙ word-in s _ _ cpu p i k w (rw e at (h .1 .1)))
+    get-word {v} {p} {i} {k} {w} e o = arm-word take-ready (ap (take (shapeOf s) cpu) e) refl (o ∙ word-in s _ _ cpu v p i k w (rw e at (h .1 .1)))
 
     pub get-last : {b : Block} → stage ≡ Taking.Last b → outcome r m ≡ ranged (shapeOf s) b (inCpus (shapeOf s) (take (shapeOf s) cpu (Taking.Last b))) ps
         → Carries s (zone [] ws cs ts ps) (take (shapeOf s) cpu stage) (result r (zone [] ws cs ts m))

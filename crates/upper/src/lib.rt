@@ -92,20 +92,30 @@ fn get_step(
             start,
             child,
         } => match order {
-            Order::Zero => child_stages::child_zero(children, shape, cpu, place, start, child),
+            Order::Run(run) => child_stages::child_run(
+                children,
+                shape,
+                cpu,
+                run,
+                place,
+                start,
+                child,
+            ),
             Order::Nine => child_stages::child_nine(children, shape, cpu, place, start, child),
         },
         Taking::Word {
+            run,
             place,
             start,
             child,
             word,
-        } => word_stages::word(words, shape, cpu, place, start, child, word),
+        } => word_stages::word(words, shape, cpu, run, place, start, child, word),
         Taking::GiveBack {
+            run,
             place,
             start,
             child,
-        } => child_stages::give_back(children, shape, cpu, place, start, child),
+        } => child_stages::give_back(children, shape, cpu, run, place, start, child),
         Taking::Last(block) => cpu_stages::last(cpus, shape, cpu, block),
         Taking::Fail { order, place } => tree_stages::fail(trees, shape, cpu, order, place),
         Taking::NoRoom => Answer::NoRoom,
@@ -127,10 +137,10 @@ fn put_step(
 {
     match stage {
         Giving::Clear(block) => match block {
-            Block::Base(frame) => word_stages::clear_base(words, shape, cpu, frame),
+            Block::Run { run, first } => word_stages::clear(words, shape, cpu, run, first),
             Block::Whole(huge) => child_stages::clear_whole(children, shape, cpu, huge),
         },
-        Giving::Raise(frame) => child_stages::raise(children, shape, cpu, frame),
+        Giving::Raise { run, first } => child_stages::raise(children, shape, cpu, run, first),
         Giving::ToEntry(block) => cpu_stages::to_entry(cpus, shape, cpu, block),
         Giving::ToTree(block) => tree_stages::to_tree(trees, shape, cpu, block),
     }

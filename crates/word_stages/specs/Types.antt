@@ -1,5 +1,7 @@
 -- The types of the crates below, under one name.
+pub use Rattle.rules.specs.declared.Frame.{Frame}
 pub use Rattle.rules.specs.declared.Tree.{Tree}
+pub use Rattle.rules.specs.declared.Run.{Run}
 pub use Rattle.rules.specs.declared.Block.{Block}
 pub use Rattle.rules.specs.declared.Bit.{Bit}
 pub use Rattle.rules.specs.declared.Place.{Place}

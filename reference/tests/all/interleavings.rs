@@ -3,6 +3,7 @@
 
 use crate::common::Packed;
 use reference::answer::{Answer, Refusal};
+use reference::layout;
 use reference::operation::Operation;
 use reference::rng::Rng;
 use reference::zone::Zone;
@@ -49,7 +50,11 @@ impl Run {
             let begun = self.zone.begin_put(cpu as u64, block.frame, block.order);
             (begun, Some(block), block.order)
         } else {
-            let order = if self.rng.percent(huge) { 9 } else { 0 };
+            let order = if self.rng.percent(huge) {
+                9
+            } else {
+                self.rng.pick(&[0, 0, 0, 0, 1, 2, 3, 4, 5, 6])
+            };
             (self.zone.begin_get(cpu as u64, order), None, order)
         };
         let (begun, put, order) = work;
@@ -120,10 +125,12 @@ impl Run {
     /// Every held block is taken.
     fn check_held(&self) {
         for block in &self.held {
+            let frame = block.frame as usize;
             let taken = if block.order == 9 {
-                self.zone.children[block.frame as usize / 512].a
+                self.zone.children[frame / 512].a
             } else {
-                self.zone.words[block.frame as usize / 64].taken(block.frame as usize % 64)
+                let (bit, size) = (frame % 64, size(*block) as usize);
+                self.zone.words[frame / 64].full(layout::Run { bit, size })
             };
             assert!(taken, "{block:?}");
         }
@@ -147,11 +154,7 @@ impl Run {
 }
 
 fn size(block: Block) -> u64 {
-    if block.order == 9 {
-        512
-    } else {
-        1
-    }
+    1 << block.order
 }
 
 const SIZES: [(usize, usize); 8] = [
@@ -193,12 +196,7 @@ fn a_cut_loses_at_most_one_block_an_operation() {
             for (gets, huge) in [(90, 50), (50, 30)] {
                 run.go(300, gets, huge);
             }
-            let most: usize = run
-                .work
-                .iter()
-                .flatten()
-                .map(|work| if work.order == 9 { 512 } else { 1 })
-                .sum();
+            let most: usize = run.work.iter().flatten().map(|work| 1 << work.order).sum();
             for tree in &mut run.zone.trees {
                 tree.count = 0x7FFF;
             }
@@ -215,11 +213,10 @@ fn a_cut_loses_at_most_one_block_an_operation() {
     }
 }
 
-/// Cut at each step of a get: nothing is lost before its taking store.
-#[test]
-fn a_get_cut_at_each_step() {
+/// The frames that a get of a run has lost when it is cut after each of its steps.
+fn lost_at_each_step(order: u64) -> Vec<u32> {
     let mut packed = Packed::created(65, 2);
-    let mut answer = packed.tables().begin_get(0, 0);
+    let mut answer = packed.tables().begin_get(0, order);
     let mut lost = Vec::new();
     while let Answer::UnderWay(operation) = answer {
         answer = packed.tables().step(operation);
@@ -231,5 +228,15 @@ fn a_get_cut_at_each_step() {
         lost.push(65 * 512 - free);
     }
     assert_eq!(answer, Answer::Done(0));
-    assert_eq!(lost, [0, 0, 0, 0, 0, 0, 0, 1, 1]);
+    lost
+}
+
+/// Nothing is lost before the taking store, which takes the whole run.
+#[test]
+fn a_get_cut_at_each_step() {
+    for order in 0..=6 {
+        let size = 1 << order;
+        let lost = lost_at_each_step(order);
+        assert_eq!(lost, [0, 0, 0, 0, 0, 0, 0, size, size]);
+    }
 }

@@ -3,7 +3,8 @@
 use crate::common::Packed;
 use reference::answer::Answer;
 use reference::get::Class;
-use reference::layout::{Child, CpuEntry, Header, Reservation, Tree, Word};
+use reference::layout::{Child, CpuEntry, Header, Reservation, Run, Tree, Word};
+use reference::operation::Order;
 use reference::zone::Zone;
 
 #[test]
@@ -48,11 +49,52 @@ fn splitting_keeps_every_bit() {
 
 #[test]
 fn bits_of_a_word() {
-    assert_eq!(Word(0b0111).lowest_zero(), Some(3));
-    assert_eq!(Word(u64::MAX).lowest_zero(), None);
-    assert_eq!(Word(0).highest_zero(), Some(63));
+    let lowest = |word: u64| Word(word).free_runs(1).next();
+    assert_eq!(lowest(0b0111), Some(3));
+    assert_eq!(lowest(u64::MAX), None);
+    assert_eq!(Word(0).free_runs(1).next_back(), Some(63));
     assert_eq!(Word(0xFF).zeros(), 56);
-    assert_eq!(Word(0).set(63).clear(63), Word(0));
+    let last = Run { bit: 63, size: 1 };
+    assert_eq!(Word(0).set(last), Word(1 << 63));
+    assert_eq!(Word(0).set(last).clear(last), Word(0));
+}
+
+#[test]
+fn runs_of_a_word() {
+    let free = |word: u64, size| Word(word).free_runs(size).collect::<Vec<_>>();
+    // Bits 1 and 2 are clear, but make no run.
+    assert_eq!(free(0b1001, 2)[..2], [4, 6]);
+    assert_eq!(free(1, 32), [32]);
+    assert_eq!(free(1 << 63, 32), [0]);
+    assert_eq!(free(0, 64), [0]);
+    assert!(free(1 << 40, 64).is_empty());
+    assert!(free(0x5555_5555_5555_5555, 2).is_empty());
+    assert_eq!(free(0x00FF_FFFF_00FF_FFFF, 8), [24, 56]);
+    let run = Run { bit: 8, size: 8 };
+    assert_eq!(Word(1).set(run), Word(0xFF01));
+    assert_eq!(Word(u64::MAX).clear(run), Word(!0xFF00));
+    let whole = Run { bit: 0, size: 64 };
+    assert_eq!(Word(0).set(whole), Word(u64::MAX));
+    assert_eq!(Word(u64::MAX).clear(whole), Word(0));
+    let some = Word(0x0100);
+    assert!(!some.free(run) && !some.full(run));
+    assert!(Word(!0xFF00).free(run) && Word(0xFF00).full(run));
+}
+
+#[test]
+fn orders_and_their_sizes() {
+    let numbers: Vec<u64> = (0..100)
+        .filter(|&number| Order::from_number(number).is_some())
+        .collect();
+    assert_eq!(numbers, [0, 1, 2, 3, 4, 5, 6, 9]);
+    let orders = || {
+        numbers
+            .iter()
+            .filter_map(|&number| Order::from_number(number))
+    };
+    assert!(orders().map(Order::size).eq([1, 2, 4, 8, 16, 32, 64, 512]));
+    assert!(orders().map(Order::number).eq(numbers.iter().copied()));
+    assert_eq!(Order::from_number(1 << 32), None);
 }
 
 #[test]

@@ -6,4 +6,5 @@ mod interleavings;
 mod layouts;
 mod refusals;
 mod rules;
+mod runs;
 mod sessions;

@@ -70,12 +70,12 @@ type Call = fn(&mut Tables) -> u8;
 
 /// The calls that need a running zone.
 const RUNNING_CALLS: [Call; 6] = [
-    |tables| tables.begin_get(99, 5).number(),
-    |tables| tables.begin_put(99, u64::MAX, 5).number(),
+    |tables| tables.begin_get(99, 7).number(),
+    |tables| tables.begin_put(99, u64::MAX, 7).number(),
     |tables| tables.step(Operation::Finished).number(),
     |tables| {
         tables
-            .step(Operation::Get(Get::new(0, Order::Base)))
+            .step(Operation::Get(Get::new(0, Order::BASE)))
             .number()
     },
     |tables| tables.open_next(Opening::Finished).number(),
@@ -189,23 +189,37 @@ fn beginnings_in_their_order() {
     let mut packed = Packed::created(33, 2);
     let end = 33 * 512;
     for (cpu, order, number) in [
+        (2, 7, 7),
         (2, 1, 7),
         (u64::MAX, 0, 7),
-        (1, 1, 3),
+        (1, 7, 3),
         (0, 8, 3),
         (0, 10, 3),
+        (0, u64::MAX, 3),
     ] {
         refused(&mut packed, number, |tables| tables.begin_get(cpu, order));
     }
     for (cpu, frame, order, number) in [
-        (2, end + 1, 1, 7),
+        (2, end + 1, 7, 7),
+        (2, 1, 1, 7),
         (2, 0, 0, 7),
-        (0, end + 1, 1, 3),
-        (0, 0, 1, 3),
+        (0, end + 1, 7, 3),
+        (0, 1, 8, 3),
+        (0, 0, 10, 3),
         (0, end + 1, 9, 4),
+        (0, end + 1, 1, 4),
         (0, end, 0, 4),
+        (0, end, 6, 4),
         (0, u64::MAX, 0, 4),
+        (0, u64::MAX, 6, 4),
         (0, end - 1, 9, 5),
+        (0, end - 1, 1, 5),
+        (0, 2, 2, 5),
+        (0, 4, 3, 5),
+        (0, 8, 4, 5),
+        (0, 16, 5, 5),
+        (0, 32, 6, 5),
+        (0, 96, 6, 5),
     ] {
         refused(&mut packed, number, |tables| {
             tables.begin_put(cpu, frame, order)
@@ -217,8 +231,8 @@ fn beginnings_in_their_order() {
 fn not_taken() {
     let mut packed = Packed::created(1, 1);
     for (order, stage) in [
-        (Order::Base, PutStage::Clear),
-        (Order::Huge, PutStage::Clear),
+        (Order::BASE, PutStage::Clear),
+        (Order::HUGE, PutStage::Clear),
     ] {
         refused(&mut packed, 6, |tables| {
             tables.step(a_put(0, 0, order, stage))
@@ -226,14 +240,42 @@ fn not_taken() {
     }
     assert_eq!(packed.get(0, 9), Answer::Done(0));
     assert_eq!(packed.put(0, 5, 0), Answer::Refused(Refusal::NotTaken));
+    assert_eq!(packed.put(0, 64, 6), Answer::Refused(Refusal::NotTaken));
+}
+
+/// One clear bit anywhere in a run, or all of them.
+#[test]
+fn not_taken_when_any_bit_is_clear() {
+    for number in 0..=6 {
+        let order = Order::from_number(number).unwrap();
+        let size = order.size() as u64;
+        let mut packed = Packed::created(1, 1);
+        packed.children[0] = 0;
+        packed.trees[0] = 0;
+        for bit in 0..size {
+            packed.words[1] = !(1 << (64 - size + bit));
+            let last = a_put(0, 128 - size, order, PutStage::Clear);
+            refused(&mut packed, 6, |tables| tables.step(last));
+        }
+        packed.words[1] = 0;
+        let first = a_put(0, 64, order, PutStage::Clear);
+        refused(&mut packed, 6, |tables| tables.step(first));
+        packed.words[1] = u64::MAX;
+        assert_eq!(packed.put(0, 64, number), Answer::Done(64));
+        assert_eq!(packed.words[1].count_zeros(), size as u32);
+        assert_eq!(packed.words[1].trailing_zeros(), size as u32);
+        assert_eq!(packed.children[0], size as u16);
+    }
 }
 
 #[test]
 fn records_out_of_range() {
     let mut packed = Packed::created(33, 2);
     let search = |tree, start, tried| Search { tree, start, tried };
-    let base = Order::Base;
-    let huge = Order::Huge;
+    let base = Order::BASE;
+    let huge = Order::HUGE;
+    let pair = Order::from_number(1).unwrap();
+    let whole = Order::LONGEST_RUN;
     let mut records = vec![Operation::Finished];
     records.extend([
         a_get(2, base, Stage::Look),
@@ -266,6 +308,18 @@ fn records_out_of_range() {
         ),
         a_get(0, base, Stage::KeepStart { frame: 33 * 512 }),
         a_get(0, huge, Stage::KeepStart { frame: 1 }),
+        a_get(0, pair, Stage::KeepStart { frame: 1 }),
+        a_get(0, whole, Stage::KeepStart { frame: 32 }),
+        a_get(0, whole, Stage::KeepStart { frame: 33 * 512 }),
+        a_get(0, huge, Stage::GiveBack(search(0, 0, 0))),
+        a_get(
+            0,
+            huge,
+            Stage::SearchWord {
+                search: search(0, 0, 0),
+                word: 0,
+            },
+        ),
         Operation::Get(Get {
             own: Some(2),
             ..Get::new(0, base)
@@ -278,6 +332,11 @@ fn records_out_of_range() {
         a_put(0, 33 * 512, base, PutStage::Tree),
         a_put(0, 1, huge, PutStage::Clear),
         a_put(0, 0, huge, PutStage::RaiseChild),
+        a_put(0, 1, pair, PutStage::Clear),
+        a_put(0, 3, pair, PutStage::RaiseChild),
+        a_put(0, 16, whole, PutStage::OwnEntry),
+        a_put(0, 65, whole, PutStage::Tree),
+        a_put(0, u64::MAX, whole, PutStage::Clear),
     ]);
     for record in records {
         packed.children[0] = 0xFFFF;
@@ -288,7 +347,7 @@ fn records_out_of_range() {
 #[test]
 fn malformed_entries_read() {
     let good = Packed::created(33, 2);
-    let look = a_get(0, Order::Base, Stage::Look);
+    let look = a_get(0, Order::BASE, Stage::Look);
     for entry in [
         1,
         1 << 32,
@@ -302,17 +361,17 @@ fn malformed_entries_read() {
         packed.cpus = vec![entry, entry];
         for operation in [
             look,
-            a_get(0, Order::Base, Stage::FillEntry { tree: 0, hand: 0 }),
-            a_get(0, Order::Base, Stage::LookAgain { tree: 0 }),
-            a_get(0, Order::Base, Stage::ReleaseEntry { tree: 0 }),
-            a_get(0, Order::Base, Stage::WriteEntry { tree: 0, hand: 1 }),
-            a_get(0, Order::Base, Stage::KeepStart { frame: 0 }),
+            a_get(0, Order::BASE, Stage::FillEntry { tree: 0, hand: 0 }),
+            a_get(0, Order::BASE, Stage::LookAgain { tree: 0 }),
+            a_get(0, Order::BASE, Stage::ReleaseEntry { tree: 0 }),
+            a_get(0, Order::BASE, Stage::WriteEntry { tree: 0, hand: 1 }),
+            a_get(0, Order::BASE, Stage::KeepStart { frame: 0 }),
             Operation::Get(Get {
                 place: 6,
                 stage: Stage::TryPlace,
-                ..Get::new(0, Order::Base)
+                ..Get::new(0, Order::BASE)
             }),
-            a_put(0, 0, Order::Base, PutStage::OwnEntry),
+            a_put(0, 0, Order::BASE, PutStage::OwnEntry),
         ] {
             refused(&mut packed, 12, |tables| tables.step(operation));
         }
@@ -325,7 +384,7 @@ fn malformed_trees_and_children_read() {
     let mut packed = Packed::created(33, 2);
     packed.trees[1] = 513;
     let (tree, hand) = (1, 0);
-    let at = |stage| a_get(0, Order::Base, stage);
+    let at = |stage| a_get(0, Order::BASE, stage);
     for operation in [
         at(Stage::TakeCount { tree }),
         at(Stage::ReturnHand { tree, hand }),
@@ -336,9 +395,9 @@ fn malformed_trees_and_children_read() {
         Operation::Get(Get {
             place: 1,
             stage: Stage::TryPlace,
-            ..Get::new(0, Order::Base)
+            ..Get::new(0, Order::BASE)
         }),
-        a_put(0, 32 * 512, Order::Base, PutStage::Tree),
+        a_put(0, 32 * 512, Order::BASE, PutStage::Tree),
     ] {
         refused(&mut packed, 12, |tables| tables.step(operation));
     }
@@ -353,8 +412,8 @@ fn malformed_trees_and_children_read() {
         for operation in [
             at(Stage::SearchChild(search)),
             at(Stage::GiveBack(search)),
-            a_put(0, 0, Order::Base, PutStage::RaiseChild),
-            a_put(0, 0, Order::Huge, PutStage::Clear),
+            a_put(0, 0, Order::BASE, PutStage::RaiseChild),
+            a_put(0, 0, Order::HUGE, PutStage::Clear),
         ] {
             refused(&mut packed, 12, |tables| tables.step(operation));
         }
@@ -366,16 +425,23 @@ fn sums_past_their_bounds() {
     let mut packed = Packed::created(33, 2);
     packed.children[1] = 0x8000;
     packed.cpus[0] = PRESENT | 16_384 << 32;
-    let at = |stage| a_get(0, Order::Base, stage);
+    let at = |stage| a_get(0, Order::BASE, stage);
     let search = |start| Search {
         tree: 0,
         start,
         tried: 0,
     };
     let (tree, hand) = (0, 1);
-    let short = Stage::WriteEntry { tree, hand: 511 };
+    let short = |hand| Stage::WriteEntry { tree, hand };
+    let whole = Order::LONGEST_RUN;
+    packed.children[2] = 512 - 63;
     for operation in [
-        a_get(1, Order::Huge, short),
+        a_get(1, Order::HUGE, short(511)),
+        a_get(1, whole, short(63)),
+        a_get(1, whole, Stage::GiveBack(search(1))),
+        a_get(1, whole, Stage::GiveBack(search(2))),
+        a_put(0, 512, whole, PutStage::RaiseChild),
+        a_put(0, 1_024, whole, PutStage::RaiseChild),
         at(Stage::WriteEntry { tree, hand: 0 }),
         at(Stage::FillEntry { tree, hand }),
         at(Stage::ReturnHand { tree, hand }),
@@ -385,10 +451,10 @@ fn sums_past_their_bounds() {
         at(Stage::ReturnClaim { tree }),
         at(Stage::GiveBack(search(0))),
         at(Stage::GiveBack(search(1))),
-        a_put(0, 0, Order::Base, PutStage::RaiseChild),
-        a_put(0, 512, Order::Base, PutStage::RaiseChild),
-        a_put(0, 0, Order::Base, PutStage::OwnEntry),
-        a_put(0, 0, Order::Base, PutStage::Tree),
+        a_put(0, 0, Order::BASE, PutStage::RaiseChild),
+        a_put(0, 512, Order::BASE, PutStage::RaiseChild),
+        a_put(0, 0, Order::BASE, PutStage::OwnEntry),
+        a_put(0, 0, Order::BASE, PutStage::Tree),
     ] {
         refused(&mut packed, 12, |tables| tables.step(operation));
     }
@@ -402,7 +468,7 @@ fn no_room_reads_no_entry() {
     let last = Operation::Get(Get {
         place: 3,
         stage: Stage::TryPlace,
-        ..Get::new(0, Order::Base)
+        ..Get::new(0, Order::BASE)
     });
     refused(&mut packed, 2, |tables| tables.step(last));
 }

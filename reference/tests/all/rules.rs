@@ -139,7 +139,7 @@ fn open_after_close_trusts_the_children() {
 fn put_leaves_the_huge_order_alone() {
     let mut packed = Packed::created(1, 1);
     assert_eq!(packed.get(0, 9), Answer::Done(0));
-    let step = Operation::Put(reference::put::Put::new(0, 0, Order::Huge));
+    let step = Operation::Put(reference::put::Put::new(0, 0, Order::HUGE));
     let looked = packed.tables().step(step);
     assert_eq!(packed.children, [0x0200]);
     assert_eq!(steps(&mut packed, looked, 1), Answer::Done(0));

@@ -49,6 +49,8 @@ fn a_number_that_is_never_answered() {
 fn orders() {
     assert_eq!(Order::Base.number(), 0);
     assert_eq!(Order::Huge.number(), 9);
+    assert_eq!(Order::ALL.map(Order::number), [0, 1, 2, 3, 4, 5, 6, 9]);
+    assert_eq!(Order::ALL.map(Order::frames), [1, 2, 4, 8, 16, 32, 64, 512]);
 }
 
 fn read(number: u64, frame: u64) -> Answer {

@@ -78,28 +78,37 @@ fn a_zone_that_is_not_opened_after_a_cut_is_damaged() {
     assert_eq!(zone.close(), Err(Refusal::Damaged));
 }
 
+/// The frames that a get of a run has lost when it is cut after some of its nine steps.
+fn lost(order: Order, steps: u64) -> u64 {
+    let mut zone = created(65, 2);
+    let mut record = zone.begin_get(0, order).unwrap();
+    for _ in 0..steps {
+        assert_eq!(zone.step(&mut record), Answer::UnderWay);
+    }
+    let taken = u64::from(zone.tables().words[0].count_ones());
+    cut(&mut zone);
+    assert_eq!(zone.open(), Ok(()));
+    assert_eq!(zone.settled(), Ok(()));
+    assert_eq!(zone.get(0, order), Ok(taken));
+    assert_eq!(free(&mut zone), 65 * 512 - order.frames() - taken);
+    taken
+}
+
 #[test]
 fn a_get_cut_after_any_step() {
-    for steps in 0..9 {
-        let mut zone = created(65, 2);
-        let mut record = zone.begin_get(0, Base).unwrap();
-        for _ in 0..steps {
-            assert_eq!(zone.step(&mut record), Answer::UnderWay);
+    for order in Order::ALL.into_iter().filter(|&order| order != Huge) {
+        for steps in 0..9 {
+            // The bits are set by the last step but one, all at once.
+            let taken = if steps == 8 { order.frames() } else { 0 };
+            assert_eq!(lost(order, steps), taken, "{order:?}, {steps} steps");
         }
-        let taken = u64::from(zone.tables().words[0] != 0);
-        // The bit is set by the last step but one.
-        assert_eq!(taken, u64::from(steps == 8), "{steps} steps");
-        cut(&mut zone);
-        assert_eq!(zone.open(), Ok(()));
-        assert_eq!(zone.settled(), Ok(()));
-        assert_eq!(zone.get(0, Base), Ok(taken));
-        assert_eq!(free(&mut zone), 65 * 512 - 1 - taken);
     }
 }
 
 #[test]
 fn a_put_cut_after_any_step_has_given_back() {
-    for (order, steps) in [(Base, 3), (Huge, 2)] {
+    for order in Order::ALL {
+        let steps = if order == Huge { 2 } else { 3 };
         for made in 1..=steps {
             let mut zone = created(65, 2);
             let frame = zone.get(0, order).unwrap();

@@ -16,6 +16,7 @@ fn largest_numbers() {
     assert_eq!(tables.put(record, MOST, MOST, MOST).number, 7);
     assert_eq!(tables.put(record, 1, MOST, MOST).number, 3);
     assert_eq!(tables.put(record, 1, MOST, 0).number, 4);
+    assert_eq!(tables.put(record, 1, MOST, 6).number, 4);
     assert_eq!(tables.put(record, 1, MOST, 9).number, 4);
     assert_eq!(tables.create(record, MOST).number, 14);
     assert_eq!(record, &[0, 0]);
@@ -35,7 +36,7 @@ fn largest_numbers() {
 fn orders_between() {
     let mut zone = created(33, 2);
     let record = &mut [0; 2];
-    for order in (1..9).chain(10..70) {
+    for order in [7, 8].into_iter().chain(10..70) {
         assert_eq!(zone.tables().get(record, 0, order).number, 3);
         assert_eq!(zone.tables().put(record, 0, 0, order).number, 3);
     }

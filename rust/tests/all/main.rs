@@ -6,4 +6,5 @@ mod cuts;
 mod extremes;
 mod lengths;
 mod records;
+mod runs;
 mod sessions;

@@ -20,8 +20,10 @@ fn a_record_of_another_operation() {
     let frame = zone.get(0, Order::Base).unwrap();
     let records = [
         ("get", zone.begin_get(0, Order::Base)),
+        ("get", zone.begin_get(1, Order::Run16)),
         ("get", zone.begin_get(1, Order::Huge)),
         ("put", zone.begin_put(0, frame, Order::Base)),
+        ("put", zone.begin_put(0, 64, Order::Run64)),
         ("put", zone.begin_put(1, 512, Order::Huge)),
         ("open", created(33, 2).open_first()),
         ("create", created(33, 2).create_first(33)),

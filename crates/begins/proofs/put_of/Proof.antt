@@ -1,25 +1,48 @@
+use native.Mathlib.Omega.{arith}
+use Rattle.rules.proofs.Sizes.{size-some}
+use Rattle.begins.proofs.Begun.{put-misaligned, put-run, put-nine}
 use borrow.Author.Needs.{needs}
-use Rattle.begins.proofs.Begun.{put-zero, put-nine, put-misaligned}
 use Rattle.begins.proofs.put_of.Statement.{statement}
 use Rattle.begins.proofs.put_of.Tie as tie
+use Rattle.places.proofs.frames_of.Reads as frames-of-reads
+
+frames-of-requires : tie.Need-frames-of-requires
+frames-of-requires c κs = search needs
+
+cast-if1 : tie.Need-cast-if1
+cast-if1 c = search needs
+
+rem-if1 : tie.Need-rem-if1
+rem-if1 c = omega (arith, c .before .frames-of .ensures, size-some (c .before .before .args .order))
+
+returns : tie.Need-returns
+returns c = put-misaligned _ _ _ (c .before .before .frames-of .ensures) (c .if1 .taken)
+
+enum-known-order : tie.Need-enum-known-order
+enum-known-order c = search needs
 
 enum-told : tie.Need-enum-told
 enum-told c = search needs
 
-enum-told-2 : tie.Need-enum-told-2
-enum-told-2 c = search needs
-
-returns : tie.Need-returns
-returns c = put-misaligned _ _ (c .before .before .enum-told2 .given .1) (c .if1 .taken)
-
-cast-t10 : tie.Need-cast-t10
-cast-t10 c = search needs
+cast-t14 : tie.Need-cast-t14
+cast-t14 c = search needs
 
 returns-2 : tie.Need-returns-2
-returns-2 c = put-zero _ _ (c .enum-told .given .1)
+returns-2 c = put-run _ _ _ (c .before .before .before .before .before .frames-of .ensures) (c .before .before .before .if1 .left) (c .before .order .given .1)
 
 returns-3 : tie.Need-returns-3
-returns-3 c = put-nine _ _ (c .before .before .before .enum-told2 .given .1) (c .before .if1 .left)
+returns-3 c = put-nine _ _ _ (c .before .before .before .before .before .frames-of .ensures) (c .before .before .before .if1 .left) (c .before .enum-told .given .1)
 
 pub put-of-spec : {M : Type 1} → statement M
-put-of-spec = tie.close (tie.spec enum-told enum-told-2 returns cast-t10 returns-2 returns-3)
+put-of-spec =
+    tie.close
+    (tie.spec
+    frames-of-requires
+    cast-if1
+    rem-if1
+    returns
+    enum-known-order
+    enum-told
+    cast-t14
+    returns-2
+    returns-3)

@@ -31,10 +31,10 @@ same-length : tie.Need-same-length
 same-length c = search needs
 
 returns : tie.Need-returns
-returns c = step-changed (takeRun 1) _ _ (sym (c .before .before .before .take-low .ensures) ∙ ap lowOf (c .before .bit .given .1))
+returns c = step-changed (takeRun _) _ _ (sym (c .before .before .before .take-low .ensures) ∙ ap lowOf (c .before .bit .given .1))
 
 returns-2 : tie.Need-returns-2
-returns-2 c = step-told (takeRun 1) _ _ (sym (c .before .before .take-low .ensures) ∙ ap lowOf (c .enum-told .given .1))
+returns-2 c = step-told (takeRun _) _ _ (sym (c .before .before .take-low .ensures) ∙ ap lowOf (c .enum-told .given .1))
 
 pub take-at-spec : {M : Type 1} → statement M
 take-at-spec =

@@ -3,6 +3,7 @@ use Rattle.rules.specs.Blocks.{firstOf}
 use borrow.Author.Needs.{needs}
 use Rattle.places.proofs.first_of.Statement.{statement}
 use Rattle.places.proofs.first_of.Tie as tie
+use Rattle.rules.proofs.first_frame.Reads as first-frame-reads
 
 enum-known-block : tie.Need-enum-known-block
 enum-known-block c = search needs

@@ -1,7 +1,9 @@
-use borrow.Author.Needs.{needs}
 use Rattle.rules.specs.Ranges.{givingIn}
+use borrow.Author.Needs.{needs}
 use Rattle.places.proofs.giving_in.Statement.{statement}
 use Rattle.places.proofs.giving_in.Tie as tie
+use Rattle.places.proofs.block_in.Reads as block-in-reads
+use Rattle.places.proofs.run_in.Reads as run-in-reads
 
 enum-known-stage : tie.Need-enum-known-stage
 enum-known-stage c = search needs
@@ -12,8 +14,8 @@ block-in-requires c κs = search needs
 enum-known-stage-2 : tie.Need-enum-known-stage-2
 enum-known-stage-2 c = search needs
 
-frame-in-requires : tie.Need-frame-in-requires
-frame-in-requires c κs = search needs
+run-in-requires : tie.Need-run-in-requires
+run-in-requires c κs = search needs
 
 enum-known-stage-3 : tie.Need-enum-known-stage-3
 enum-known-stage-3 c = search needs
@@ -33,7 +35,7 @@ returns c = rw (c .before .before .stage .given .1) (c .block-in .ensures)
 
 returns-2 : tie.Need-returns-2
 unfolding givingIn
-returns-2 c = rw (c .before .before .stage2 .given .1) (c .frame-in .ensures)
+returns-2 c = rw (c .before .before .stage2 .given .1) (c .run-in .ensures)
 
 returns-3 : tie.Need-returns-3
 unfolding givingIn
@@ -50,7 +52,7 @@ giving-in-spec =
     enum-known-stage
     block-in-requires
     enum-known-stage-2
-    frame-in-requires
+    run-in-requires
     enum-known-stage-3
     block-in-requires-2
     enum-known-stage-4

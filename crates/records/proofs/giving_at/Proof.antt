@@ -10,6 +10,12 @@ use Rattle.records.proofs.giving_at.Tie as tie
 block-at-requires : tie.Need-block-at-requires
 block-at-requires c κs = search needs
 
+cast-run-of : tie.Need-cast-run-of
+cast-run-of c = search needs
+
+run-of-requires : tie.Need-run-of-requires
+run-of-requires c κs = search needs
+
 block-at-requires-2 : tie.Need-block-at-requires-2
 block-at-requires-2 c κs = search needs
 
@@ -22,7 +28,7 @@ returns c = rw (c .before .match .keys1, c .block-at .ensures) refl
 
 returns-2 : tie.Need-returns-2
 unfolding givingAt pick
-returns-2 c = rw (c .match .keys2) refl
+returns-2 c = rw (c .before .before .match .keys2, c .run-of .ensures) refl
 
 returns-3 : tie.Need-returns-3
 unfolding givingAt pick
@@ -37,6 +43,8 @@ giving-at-spec =
     tie.close
     (tie.spec
     block-at-requires
+    cast-run-of
+    run-of-requires
     block-at-requires-2
     block-at-requires-3
     returns

@@ -1,16 +1,21 @@
-use mathlib.Core.Path.{refl}
+use mathlib.Core.Path.{refl, ap}
+use borrow.Author.Needs.{needs}
 use Rattle.rules.specs.Begin.{orderOf}
-use Rattle.records.proofs.Picks.{same, other}
+use Rattle.records.specs.Types.{Order}
+use Rattle.records.proofs.Picks.{below, above}
 use Rattle.records.proofs.order_at.Statement.{statement}
 use Rattle.records.proofs.order_at.Tie as tie
 
+run-of-requires : tie.Need-run-of-requires
+run-of-requires c κs = search needs
+
 returns : tie.Need-returns
 unfolding orderOf
-returns c = same _ (c .if1 .taken) refl
+returns c = below _ (c .before .if1 .taken) (ap Order.Run (c .run-of .ensures))
 
 returns-2 : tie.Need-returns-2
 unfolding orderOf
-returns-2 c = other _ (c .if1 .left) refl
+returns-2 c = above _ (c .if1 .left) refl
 
 pub order-at-spec : {M : Type 1} → statement M
-order-at-spec = tie.close (tie.spec returns returns-2)
+order-at-spec = tie.close (tie.spec run-of-requires returns returns-2)

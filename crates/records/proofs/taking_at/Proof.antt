@@ -27,8 +27,20 @@ found-at-requires c κs = search needs
 place-at-requires-3 : tie.Need-place-at-requires-3
 place-at-requires-3 c κs = search needs
 
+cast-run-of : tie.Need-cast-run-of
+cast-run-of c = search needs
+
+run-of-requires : tie.Need-run-of-requires
+run-of-requires c κs = search needs
+
 place-at-requires-4 : tie.Need-place-at-requires-4
 place-at-requires-4 c κs = search needs
+
+cast-run-of-2 : tie.Need-cast-run-of-2
+cast-run-of-2 c = search needs
+
+run-of-requires-2 : tie.Need-run-of-requires-2
+run-of-requires-2 c κs = search needs
 
 place-at-requires-5 : tie.Need-place-at-requires-5
 place-at-requires-5 c κs = search needs
@@ -89,11 +101,11 @@ returns-12 c = rw (c .before .match .keys12, c .place-at3 .ensures, c .before .b
 
 returns-13 : tie.Need-returns-13
 unfolding takingAt pick
-returns-13 c = rw (c .before .match .keys13, c .place-at4 .ensures, c .before .before .split-second .ensures) refl
+returns-13 c = rw (c .before .before .before .match .keys13, c .before .run-of .ensures, c .place-at4 .ensures, c .before .before .before .before .split-second .ensures) refl
 
 returns-14 : tie.Need-returns-14
 unfolding takingAt pick
-returns-14 c = rw (c .before .match .keys14, c .place-at5 .ensures, c .before .before .split-second .ensures) refl
+returns-14 c = rw (c .before .before .before .match .keys14, c .before .run-of2 .ensures, c .place-at5 .ensures, c .before .before .before .before .split-second .ensures) refl
 
 returns-15 : tie.Need-returns-15
 unfolding takingAt pick
@@ -117,7 +129,11 @@ taking-at-spec =
     pass-at-requires
     found-at-requires
     place-at-requires-3
+    cast-run-of
+    run-of-requires
     place-at-requires-4
+    cast-run-of-2
+    run-of-requires-2
     place-at-requires-5
     block-at-requires
     place-at-requires-6

@@ -4,6 +4,23 @@ use Rattle.upper.proofs.Arms.{child-of, get-none, get-cpu, get-tree, ge
 use borrow.Author.Needs.{needs}
 use Rattle.upper.proofs.get_step.Statement.{statement}
 use Rattle.upper.proofs.get_step.Tie as tie
+use Rattle.child_stages.proofs.child_nine.Reads as child-nine-reads
+use Rattle.child_stages.proofs.child_run.Reads as child-run-reads
+use Rattle.child_stages.proofs.give_back.Reads as give-back-reads
+use Rattle.cpu_stages.proofs.fill_entry.Reads as fill-entry-reads
+use Rattle.cpu_stages.proofs.last.Reads as last-reads
+use Rattle.cpu_stages.proofs.look_again.Reads as look-again-reads
+use Rattle.cpu_stages.proofs.own.Reads as own-reads
+use Rattle.cpu_stages.proofs.release.Reads as release-reads
+use Rattle.cpu_stages.proofs.steal.Reads as steal-reads
+use Rattle.cpu_stages.proofs.write.Reads as write-reads
+use Rattle.tree_stages.proofs.fail.Reads as fail-reads
+use Rattle.tree_stages.proofs.return_hand.Reads as return-hand-reads
+use Rattle.tree_stages.proofs.steal_count.Reads as steal-count-reads
+use Rattle.tree_stages.proofs.take_count.Reads as take-count-reads
+use Rattle.tree_stages.proofs.try_tree.Reads as try-tree-reads
+use Rattle.tree_stages.proofs.unreserve.Reads as unreserve-reads
+use Rattle.word_stages.proofs.word.Reads as word-reads
 
 enum-known-stage : tie.Need-enum-known-stage
 enum-known-stage c = search needs
@@ -74,14 +91,14 @@ steal-count-requires c κs = search needs
 enum-known-stage-12 : tie.Need-enum-known-stage-12
 enum-known-stage-12 c = search needs
 
+enum-known-order : tie.Need-enum-known-order
+enum-known-order c = search needs
+
+child-run-requires : tie.Need-child-run-requires
+child-run-requires c κs = search needs
+
 enum-told : tie.Need-enum-told
 enum-told c = search needs
-
-child-zero-requires : tie.Need-child-zero-requires
-child-zero-requires c κs = search needs
-
-enum-told-2 : tie.Need-enum-told-2
-enum-told-2 c = search needs
 
 child-nine-requires : tie.Need-child-nine-requires
 child-nine-requires c κs = search needs
@@ -110,8 +127,8 @@ enum-known-stage-16 c = search needs
 fail-requires : tie.Need-fail-requires
 fail-requires c κs = search needs
 
-enum-told-3 : tie.Need-enum-told-3
-enum-told-3 c = search needs
+enum-told-2 : tie.Need-enum-told-2
+enum-told-2 c = search needs
 
 same-length : tie.Need-same-length
 same-length c = search needs
@@ -195,14 +212,14 @@ same-length-12 c = search needs
 
 returns-12 : tie.Need-returns-12
 unfolding take
-returns-12 c = get-child _ _ (c .before .before .before .before .before .before .before .before .before .before .before .before .before .pre) (child-of (c .before .before .before .before .before .before .before .stage12 .given .1) (c .before .before .before .before .enum-told .given .1)) refl (c .before .before .child-zero .ensures)
+returns-12 c = get-child _ _ (c .before .before .before .before .before .before .before .before .before .before .before .before .before .before .pre) (child-of (c .before .before .before .before .before .before .before .before .stage12 .given .1) (c .before .before .before .before .before .order .given .1)) refl (c .before .before .child-run .ensures)
 
 same-length-13 : tie.Need-same-length-13
 same-length-13 c = search needs
 
 returns-13 : tie.Need-returns-13
 unfolding take
-returns-13 c = get-child _ _ (c .before .before .before .before .before .before .before .before .before .before .before .before .before .pre) (child-of (c .before .before .before .before .before .before .before .stage12 .given .1) (c .before .before .before .before .enum-told2 .given .1)) refl (c .before .before .child-nine .ensures)
+returns-13 c = get-child _ _ (c .before .before .before .before .before .before .before .before .before .before .before .before .before .pre) (child-of (c .before .before .before .before .before .before .before .stage12 .given .1) (c .before .before .before .before .enum-told .given .1)) refl (c .before .before .child-nine .ensures)
 
 same-length-14 : tie.Need-same-length-14
 same-length-14 c = search needs
@@ -232,7 +249,7 @@ returns-17 c = get-tree _ _ (c .before .before .before .before .before .before .
 
 returns-18 : tie.Need-returns-18
 unfolding take
-returns-18 c = get-none _ _ (c .before .before .before .before .before .before .pre) (c .enum-told3 .given .1) refl
+returns-18 c = get-none _ _ (c .before .before .before .before .before .before .pre) (c .enum-told2 .given .1) refl
 
 pub get-step-spec : {M : Type 1} → statement M
 get-step-spec =
@@ -261,9 +278,9 @@ get-step-spec =
     enum-known-stage-11
     steal-count-requires
     enum-known-stage-12
+    enum-known-order
+    child-run-requires
     enum-told
-    child-zero-requires
-    enum-told-2
     child-nine-requires
     enum-known-stage-13
     word-requires
@@ -273,7 +290,7 @@ get-step-spec =
     last-requires
     enum-known-stage-16
     fail-requires
-    enum-told-3
+    enum-told-2
     same-length
     returns
     same-length-2

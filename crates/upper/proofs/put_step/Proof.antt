@@ -5,6 +5,11 @@ use Rattle.upper.proofs.Arms.{put-cpu, put-tree, put-child, put-word}
 use borrow.Author.Needs.{needs}
 use Rattle.upper.proofs.put_step.Statement.{statement}
 use Rattle.upper.proofs.put_step.Tie as tie
+use Rattle.child_stages.proofs.clear_whole.Reads as clear-whole-reads
+use Rattle.child_stages.proofs.raise.Reads as raise-reads
+use Rattle.cpu_stages.proofs.to_entry.Reads as to-entry-reads
+use Rattle.tree_stages.proofs.to_tree.Reads as to-tree-reads
+use Rattle.word_stages.proofs.clear.Reads as clear-reads
 
 enum-known-stage : tie.Need-enum-known-stage
 enum-known-stage c = search needs
@@ -12,8 +17,8 @@ enum-known-stage c = search needs
 enum-known-block : tie.Need-enum-known-block
 enum-known-block c = search needs
 
-clear-base-requires : tie.Need-clear-base-requires
-clear-base-requires c κs = search needs
+clear-requires : tie.Need-clear-requires
+clear-requires c κs = search needs
 
 enum-known-block-2 : tie.Need-enum-known-block-2
 enum-known-block-2 c = search needs
@@ -44,7 +49,7 @@ same-length c = search needs
 
 returns : tie.Need-returns
 unfolding give clear
-returns c = put-word _ _ (c .before .before .before .before .before .before .before .before .before .before .before .before .before .before .pre) (c .before .before .before .before .before .before .before .before .stage .given .1 ∙ ap Giving.Clear (c .before .before .before .before .before .block .given .1)) refl (c .before .before .clear-base .ensures)
+returns c = put-word _ _ (c .before .before .before .before .before .before .before .before .before .before .before .before .before .before .pre) (c .before .before .before .before .before .before .before .before .stage .given .1 ∙ ap Giving.Clear (c .before .before .before .before .before .block .given .1)) refl (c .before .before .clear .ensures)
 
 same-length-2 : tie.Need-same-length-2
 same-length-2 c = search needs
@@ -80,7 +85,7 @@ put-step-spec =
     (tie.spec
     enum-known-stage
     enum-known-block
-    clear-base-requires
+    clear-requires
     enum-known-block-2
     clear-whole-requires
     enum-known-stage-2

@@ -3,8 +3,8 @@ use Prim.Native.Nat.{_*_}
 use borrow.Author.Needs.{needs}
 use Rattle.places.proofs.Ranges.{children-same}
 use Rattle.lending.proofs.Lending.{lent-back, not-lent}
-use Rattle.word_stages.proofs.take_bit.Statement.{statement}
-use Rattle.word_stages.proofs.take_bit.Tie as tie
+use Rattle.word_stages.proofs.take_run.Statement.{statement}
+use Rattle.word_stages.proofs.take_run.Tie as tie
 
 cast-first : tie.Need-cast-first
 cast-first c = search needs
@@ -30,29 +30,29 @@ add-end c = search needs
 returns : tie.Need-returns
 returns c = not-lent _ _ _ _ _ (ap (λ n. 8 * n) (c .before .children-of .ensures ∙ children-same (c .before .before .before .before .args .shape) _)) (c .if1 .taken)
 
-mul-take-bit : tie.Need-mul-take-bit
-mul-take-bit c = search needs
+mul-take-run : tie.Need-mul-take-run
+mul-take-run c = search needs
 
-sub-take-bit : tie.Need-sub-take-bit
-sub-take-bit c = search needs
+sub-take-run : tie.Need-sub-take-run
+sub-take-run c = search needs
 
-part-take-bit-start : tie.Need-part-take-bit-start
-part-take-bit-start c = search needs
+part-take-run-start : tie.Need-part-take-run-start
+part-take-run-start c = search needs
 
-part-take-bit-end : tie.Need-part-take-bit-end
-part-take-bit-end c = search needs
+part-take-run-end : tie.Need-part-take-run-end
+part-take-run-end c = search needs
 
-take-bit-requires : tie.Need-take-bit-requires
-take-bit-requires c κs = search needs
+take-run-requires : tie.Need-take-run-requires
+take-run-requires c κs = search needs
 
 same-length : tie.Need-same-length
 same-length c = search needs
 
 returns-2 : tie.Need-returns-2
-returns-2 c = lent-back _ _ _ _ _ (ap (λ n. 8 * n) (c .before .before .before .before .before .children-of .ensures ∙ children-same (c .before .before .before .before .before .before .before .before .args .shape) _)) (c .before .before .before .before .if1 .left) (c .before .before .take-bit .ensures)
+returns-2 c = lent-back _ _ _ _ _ (ap (λ n. 8 * n) (c .before .before .before .before .before .children-of .ensures ∙ children-same (c .before .before .before .before .before .before .before .before .args .shape) _)) (c .before .before .before .before .if1 .left) (c .before .before .take-run .ensures)
 
-pub take-bit-spec : {M : Type 1} → statement M
-take-bit-spec =
+pub take-run-spec : {M : Type 1} → statement M
+take-run-spec =
     tie.close
     (tie.spec
     cast-first
@@ -63,10 +63,10 @@ take-bit-spec =
     mul-end
     add-end
     returns
-    mul-take-bit
-    sub-take-bit
-    part-take-bit-start
-    part-take-bit-end
-    take-bit-requires
+    mul-take-run
+    sub-take-run
+    part-take-run-start
+    part-take-run-end
+    take-run-requires
     same-length
     returns-2)

@@ -3,8 +3,8 @@ use Prim.Native.Nat.{_*_}
 use borrow.Author.Needs.{needs}
 use Rattle.places.proofs.Ranges.{children-same}
 use Rattle.lending.proofs.Lending.{lent-back, not-lent}
-use Rattle.word_stages.proofs.clear_bit.Statement.{statement}
-use Rattle.word_stages.proofs.clear_bit.Tie as tie
+use Rattle.word_stages.proofs.clear_run.Statement.{statement}
+use Rattle.word_stages.proofs.clear_run.Tie as tie
 
 cast-first : tie.Need-cast-first
 cast-first c = search needs
@@ -30,29 +30,29 @@ add-end c = search needs
 returns : tie.Need-returns
 returns c = not-lent _ _ _ _ _ (ap (λ n. 8 * n) (c .before .children-of .ensures ∙ children-same (c .before .before .before .before .args .shape) _)) (c .if1 .taken)
 
-mul-clear-bit : tie.Need-mul-clear-bit
-mul-clear-bit c = search needs
+mul-clear-run : tie.Need-mul-clear-run
+mul-clear-run c = search needs
 
-sub-clear-bit : tie.Need-sub-clear-bit
-sub-clear-bit c = search needs
+sub-clear-run : tie.Need-sub-clear-run
+sub-clear-run c = search needs
 
-part-clear-bit-start : tie.Need-part-clear-bit-start
-part-clear-bit-start c = search needs
+part-clear-run-start : tie.Need-part-clear-run-start
+part-clear-run-start c = search needs
 
-part-clear-bit-end : tie.Need-part-clear-bit-end
-part-clear-bit-end c = search needs
+part-clear-run-end : tie.Need-part-clear-run-end
+part-clear-run-end c = search needs
 
-clear-bit-requires : tie.Need-clear-bit-requires
-clear-bit-requires c κs = search needs
+clear-run-requires : tie.Need-clear-run-requires
+clear-run-requires c κs = search needs
 
 same-length : tie.Need-same-length
 same-length c = search needs
 
 returns-2 : tie.Need-returns-2
-returns-2 c = lent-back _ _ _ _ _ (ap (λ n. 8 * n) (c .before .before .before .before .before .children-of .ensures ∙ children-same (c .before .before .before .before .before .before .before .before .args .shape) _)) (c .before .before .before .before .if1 .left) (c .before .before .clear-bit .ensures)
+returns-2 c = lent-back _ _ _ _ _ (ap (λ n. 8 * n) (c .before .before .before .before .before .children-of .ensures ∙ children-same (c .before .before .before .before .before .before .before .before .args .shape) _)) (c .before .before .before .before .if1 .left) (c .before .before .clear-run .ensures)
 
-pub clear-bit-spec : {M : Type 1} → statement M
-clear-bit-spec =
+pub clear-run-spec : {M : Type 1} → statement M
+clear-run-spec =
     tie.close
     (tie.spec
     cast-first
@@ -63,10 +63,10 @@ clear-bit-spec =
     mul-end
     add-end
     returns
-    mul-clear-bit
-    sub-clear-bit
-    part-clear-bit-start
-    part-clear-bit-end
-    clear-bit-requires
+    mul-clear-run
+    sub-clear-run
+    part-clear-run-start
+    part-clear-run-end
+    clear-run-requires
     same-length
     returns-2)
