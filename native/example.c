@@ -39,6 +39,12 @@ static void by_runs(const char *asked, lovarntek_answer answer) {
     tell(asked, answer, steps);
 }
 
+/* A get or put begun and run in one call. */
+static void in_one(const char *asked, lovarntek_ran ran) {
+    lovarntek_answer answer = {ran.number, ran.frame};
+    tell(asked, answer, ran.steps);
+}
+
 static void open_again(const char *asked) {
     uint64_t steps = 1;
     lovarntek_answer answer = lovarntek_open(ZONE, RECORD);
@@ -58,6 +64,8 @@ int main(void) {
     by_steps("put 0 again", lovarntek_put(ZONE, RECORD, 1, 0, BASE));
     by_runs("get run of 8, CPU 0", lovarntek_get(ZONE, RECORD, 0, RUN_OF_8));
     by_steps("put run 1024", lovarntek_put(ZONE, RECORD, 0, 1024, RUN_OF_8));
+    in_one("get base in one, CPU 1", lovarntek_get_run(ZONE, RECORD, 1, BASE, UINT64_MAX));
+    in_one("put 16385 in one", lovarntek_put_run(ZONE, RECORD, 1, 16385, BASE, UINT64_MAX));
     by_steps("get, no such CPU", lovarntek_get(ZONE, RECORD, CPUS, BASE));
     memset(trees, 0xAB, sizeof trees);
     memset(cpus, 0xCD, sizeof cpus);

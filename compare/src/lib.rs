@@ -3,6 +3,7 @@
 pub mod call;
 pub mod cover;
 pub mod difference;
+pub mod fault;
 pub mod lengths;
 pub mod library;
 pub mod model;

@@ -61,6 +61,13 @@ impl Packed {
             Call::Put { cpu, frame, order } => tables.put(record, cpu, frame, order).into(),
             Call::Step => tables.step(record).into(),
             Call::Run { fuel } => tables.run(record, fuel).into(),
+            Call::GetRun { cpu, order, fuel } => tables.get_run(record, cpu, order, fuel).into(),
+            Call::PutRun {
+                cpu,
+                frame,
+                order,
+                fuel,
+            } => tables.put_run(record, cpu, frame, order, fuel).into(),
         }
     }
 }

@@ -3,18 +3,18 @@
 use std::io::{self, BufWriter, Write};
 use std::process::ExitCode;
 
+use compare::fault::Fault;
 use compare::pair::Side;
 use compare::player::Stop;
 use compare::replay::Replay;
 use compare::{lengths, scenes, tried};
-use reference::fault::Fault;
 
 const USAGE: &str = "\
 usage:
   compare calls [--seed S] [--calls N] [--fault NAME]
       compares N calls, and prints how often each case was reached
   compare tried [--seed S] [--calls N]
-      checks that each seeded fault of the reference is seen within N calls
+      checks that each seeded fault is seen within N calls
   compare replay --cpus C --steps K [--seed S] [--n N] [--fault NAME]
       plays one schedule of C CPUs (1 to 64) on N huge frames (1 to 65,536),
       K single steps (at most 1,000,000,000)

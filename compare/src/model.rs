@@ -1,29 +1,34 @@
 //! The reference's side: a decoded zone, called with the library's records.
 
 use reference::answer::{Answer, Refusal};
-use reference::fault::Fault;
 use reference::layout::MAX_HUGE_FRAMES;
 use reference::packed::Tables;
 use reference::zone::Zone;
 
 use crate::call::{Call, Outcome};
+use crate::fault::{Fault, OneCall};
 use crate::library::Packed;
 use crate::record::Record;
 use crate::translate::{
     Shape, creating, of_creating, of_opening, of_operation, opening, operation,
 };
 
-/// The reference's zone.
+/// More steps than any operation takes, at most 330 for each of 6,241 places. One with a fault may not end by itself.
+const MOST_STEPS: u64 = 1 << 22;
+
+/// The reference's zone, and the fault that was seeded.
 #[derive(Clone, Debug)]
 pub struct Model {
     pub zone: Zone,
+    pub fault: Option<Fault>,
 }
 
 impl Model {
     /// Decodes packed tables.
     pub fn load(packed: &mut Packed, fault: Option<Fault>) -> Self {
         Model {
-            zone: Zone::load(&lent(packed), fault),
+            zone: Zone::load(&lent(packed), fault.and_then(Fault::rule)),
+            fault,
         }
     }
 
@@ -54,7 +59,10 @@ impl Model {
         let (last, steps) = match call.fuel() {
             None => (self.step(call, *words), None),
             Some(fuel) => {
-                let (last, steps) = self.run(call, *words, fuel);
+                let (last, steps) = match call.beginning() {
+                    None => self.run(call, *words, fuel),
+                    Some(beginning) => self.begun_run(&beginning, *words, fuel),
+                };
                 (last, Some(steps))
             }
         };
@@ -80,9 +88,34 @@ impl Model {
             words: given.join(),
         };
         let mut steps = 0;
-        while steps < fuel && last.number == 1 {
+        while steps < fuel.min(MOST_STEPS) && last.number == 1 {
             last = self.step(&single, last.words);
             steps += 1;
+        }
+        (last, steps)
+    }
+
+    /// A get or put begun and, if that is answered 1, run.
+    fn begun_run(&mut self, beginning: &Call, words: [u64; 2], fuel: u64) -> (Step, u64) {
+        let fault = self.fault.and_then(Fault::one_call);
+        let begun = self.step(beginning, words);
+        if begun.number != 1 {
+            return match fault {
+                Some(OneCall::RefusedKeepsRecord) => (Step { words, ..begun }, 0),
+                Some(OneCall::RefusedRuns) => self.run(beginning, words, fuel),
+                _ => (begun, 0),
+            };
+        }
+        let fuel = match fault {
+            Some(OneCall::BeginTakesFuel) => fuel.saturating_sub(1),
+            _ => fuel,
+        };
+        let (mut last, mut steps) = self.run(beginning, begun.words, fuel);
+        match fault {
+            Some(OneCall::BeginCounted) => steps += 1,
+            Some(OneCall::RecordLost) if last.number == 1 => last.words = [0, 0],
+            Some(OneCall::RecordOfBegin) if last.number == 1 => last.words = begun.words,
+            _ => {}
         }
         (last, steps)
     }

@@ -1,9 +1,8 @@
 //! Both sides of a comparison, with equal tables before each call.
 
-use reference::fault::Fault;
-
 use crate::call::{Call, Outcome};
 use crate::difference::{self, Unequal};
+use crate::fault::Fault;
 use crate::library::Packed;
 use crate::model::Model;
 
@@ -44,7 +43,7 @@ impl Pair {
     /// Changes the tables of both sides.
     pub fn edit(&mut self, change: impl FnOnce(&mut Packed)) {
         change(&mut self.library);
-        self.model = Model::load(&mut self.library, self.model.zone.fault);
+        self.model = Model::load(&mut self.library, self.model.fault);
     }
 
     /// Makes a call on both sides; the record slice is the library's afterwards.

@@ -1,12 +1,12 @@
 //! Making calls one after the other, each compared and counted by its case.
 
-use reference::fault::Fault;
 use reference::layout::Header;
 use reference::rng::Rng;
 
 use crate::call::{Call, Outcome};
 use crate::cover::{Cover, Seen};
 use crate::difference::Difference;
+use crate::fault::Fault;
 use crate::library::Packed;
 use crate::pair::{Pair, Side};
 use crate::record::Record;
@@ -89,7 +89,7 @@ impl Player {
     /// Goes on with other tables.
     pub fn load(&mut self, tables: Packed) {
         let Pair { model, side, .. } = &self.pair;
-        self.pair = Pair::new(tables, model.zone.fault, *side);
+        self.pair = Pair::new(tables, model.fault, *side);
     }
 
     /// Writes a running header on both sides, which a forged create may have changed.

@@ -1,8 +1,8 @@
 //! One schedule, played on both sides.
 
-use reference::fault::Fault;
 use reference::rng::Rng;
 
+use crate::fault::Fault;
 use crate::pair::Side;
 use crate::player::{Player, Stop};
 use crate::scenes::schedule::Schedule;

@@ -1,16 +1,15 @@
-//! The seeded faults of the reference, each of which the comparison must see.
+//! The seeded faults, each of which the comparison must see.
 
 use std::io::{self, Write};
 
-use reference::fault::Fault;
-
+use crate::fault::Fault;
 use crate::pair::Side;
 use crate::player::Stop;
 use crate::scenes;
 
 /// Tries every fault that single calls show; true if all are seen.
 pub fn all(out: &mut impl Write, seed: u64, calls: u64, side: Side) -> io::Result<bool> {
-    let faults: Vec<Fault> = Fault::in_calls().collect();
+    let faults: Vec<Fault> = Fault::all().collect();
     let mut seen = 0;
     for &fault in &faults {
         let mut player = scenes::player(seed, Some(fault), calls);

@@ -4,10 +4,10 @@
  * nothing between calls and takes no memory. Header, words and children may stand in memory that survives a power cut; trees and CPUs need not.
  *
  * An operation under way is a record of two words. The caller keeps it anywhere and lends it to the next call. A get, a put, a create and an open are
- * begun by one call and go on by further ones until the answer is not 1; close is one call.
+ * begun by one call and go on by further ones until the answer is not 1; a get and a put may also be begun and run in one call; close is one call.
  *
  * Left to the caller: no pointer is null (that of an empty table neither), and the tables and the record of one call do not overlap. Everything else is
- * checked, and answered by a number. A refused call stores nothing in the tables.
+ * checked, and answered by a number. A refused call stores nothing in the tables, in a run the refused step.
  *
  * The record is written by every call that is lent it: the next record after 1, the finished one (two zero words) after any other answer. A record of
  * another length than 2 is answered 8 where a table's wrong length would be, and left as it is.
@@ -48,7 +48,7 @@ typedef struct lovarntek_answer {
 typedef struct lovarntek_ran {
     uint64_t number;
     uint64_t frame;
-    uint64_t steps; /* how many steps the run made, a refused one among them; 0 where the record's length is wrong */
+    uint64_t steps; /* how many steps the run made, a refused one among them; 0 where the record's length is wrong or the beginning is refused */
 } lovarntek_ran;
 
 /* ---- lengths, in entries */
@@ -122,6 +122,12 @@ lovarntek_answer lovarntek_step(LOVARNTEK_LENT_HEADER, LOVARNTEK_STORED, LOVARNT
 /* A run makes single steps, each as lovarntek_step; out of them it answers 1 with the record. Runs are for memory without cuts: memory that survives a
  * cut is driven by single steps. */
 lovarntek_ran lovarntek_run(LOVARNTEK_LENT_HEADER, LOVARNTEK_STORED, LOVARNTEK_RECORD_LENT, uint64_t fuel);
+
+/* Begun and run in one call: as lovarntek_get or lovarntek_put and, if that is answered 1, as lovarntek_run. The record lent is not read; out of steps it
+ * goes on by any of the calls above. */
+lovarntek_ran lovarntek_get_run(LOVARNTEK_LENT_HEADER, LOVARNTEK_STORED, LOVARNTEK_RECORD_LENT, uint64_t cpu, uint64_t order, uint64_t fuel);
+lovarntek_ran lovarntek_put_run(
+    LOVARNTEK_LENT_HEADER, LOVARNTEK_STORED, LOVARNTEK_RECORD_LENT, uint64_t cpu, uint64_t frame, uint64_t order, uint64_t fuel);
 
 #ifdef __cplusplus
 }

@@ -19,6 +19,11 @@ impl Rng {
         mixed ^ (mixed >> 31)
     }
 
+    /// Any 64 bits.
+    pub fn any(&mut self) -> u64 {
+        self.next()
+    }
+
     /// A number below `bound`, which is not 0.
     pub fn below(&mut self, bound: u64) -> u64 {
         self.next() % bound
@@ -35,5 +40,10 @@ impl Rng {
 
     pub fn pick<T: Copy>(&mut self, choices: &[T]) -> T {
         choices[self.below(choices.len() as u64) as usize]
+    }
+
+    /// An index below `length`, which is not 0.
+    pub fn index(&mut self, length: usize) -> usize {
+        self.below(length as u64) as usize
     }
 }

@@ -103,6 +103,10 @@ calls! {
     step = lovarntek_step(const, mut, mut; record;) -> Answered;
     /// Up to `fuel` steps of a get or put.
     run = lovarntek_run(const, mut, mut; record; fuel) -> Ran;
+    /// Begins a get and, if that is answered 1, makes up to `fuel` steps of it. The steps are 0 where the beginning is refused.
+    get_run = lovarntek_get_run(const, mut, mut; record; cpu, order, fuel) -> Ran;
+    /// Begins a put and, if that is answered 1, makes up to `fuel` steps of it. The steps are 0 where the beginning is refused.
+    put_run = lovarntek_put_run(const, mut, mut; record; cpu, frame, order, fuel) -> Ran;
 }
 
 mod lengths {

@@ -13,7 +13,8 @@ const TOO_MANY_CPUS: u64 = 65;
 /// The tables are vectors unless others are given to [`from_tables`](Zone::from_tables): `U64` and `U16` are anything that lends slices of these widths, such
 /// as `&mut [u64]` and `&mut [u16]`.
 ///
-/// `create`, `get`, `put` and `open` run to their end and are for memory without cuts. The other calls make one step each, except [`run`](Zone::run).
+/// `create`, `get`, `put` and `open` run to their end and are for memory without cuts. So are [`run`](Zone::run), [`get_run`](Zone::get_run) and
+/// [`put_run`](Zone::put_run), which make up to so many steps. The other calls make one step each.
 #[derive(Clone, Debug, PartialEq, Eq)]
 pub struct Zone<U64 = Vec<u64>, U16 = Vec<u16>> {
     header: U64,
@@ -68,14 +69,16 @@ impl<U64: AsMut<[u64]>, U16: AsMut<[u16]>> Zone<U64, U16> {
 
     /// Takes a block for a CPU, and gives its first frame.
     pub fn get(&mut self, cpu: u64, order: Order) -> Result<u64, Refusal> {
-        let record = self.begin_get(cpu, order)?;
-        self.end(record)
+        let mut record = Record::FINISHED;
+        let run = self.get_run(&mut record, cpu, order, u64::MAX);
+        self.end(run, record)
     }
 
     /// Gives the block that begins at `frame` back. Part of a run may be given back by itself, as a block of a smaller order.
     pub fn put(&mut self, cpu: u64, frame: u64, order: Order) -> Result<(), Refusal> {
-        let record = self.begin_put(cpu, frame, order)?;
-        self.end(record).map(|_| ())
+        let mut record = Record::FINISHED;
+        let run = self.put_run(&mut record, cpu, frame, order, u64::MAX);
+        self.end(run, record).map(|_| ())
     }
 
     /// Opens a closed zone, or one whose power was cut. Trees and CPUs are made anew, and after a cut the children's counts as well.
@@ -114,6 +117,29 @@ impl<U64: AsMut<[u64]>, U16: AsMut<[u16]>> Zone<U64, U16> {
         self.tables().run(record.lend(), fuel).into()
     }
 
+    /// Begins a get and makes up to `fuel` steps of it, in one call. The record is written, not read; a refused beginning has made no step.
+    pub fn get_run(&mut self, record: &mut Record, cpu: u64, order: Order, fuel: u64) -> Run {
+        let mut tables = self.tables();
+        tables
+            .get_run(record.lend(), cpu, order.number(), fuel)
+            .into()
+    }
+
+    /// Begins a put and makes up to `fuel` steps of it, in one call. The record is written, not read; a refused beginning has made no step.
+    pub fn put_run(
+        &mut self,
+        record: &mut Record,
+        cpu: u64,
+        frame: u64,
+        order: Order,
+        fuel: u64,
+    ) -> Run {
+        let mut tables = self.tables();
+        tables
+            .put_run(record.lend(), cpu, frame, order.number(), fuel)
+            .into()
+    }
+
     /// Create's first step, in the tables that the zone has.
     pub fn create_first(&mut self, n: u64) -> Result<Record, Refusal> {
         begun(|record| self.tables().create(record, n).into())
@@ -134,9 +160,13 @@ impl<U64: AsMut<[u64]>, U16: AsMut<[u16]>> Zone<U64, U16> {
         self.tables().open_step(record.lend()).into()
     }
 
-    /// Runs a get or put to its end.
-    fn end(&mut self, mut record: Record) -> Result<u64, Refusal> {
-        to_end(|| self.tables().run(record.lend(), u64::MAX))
+    /// The end of a get or put that has been run.
+    fn end(&mut self, run: Run, mut record: Record) -> Result<u64, Refusal> {
+        match run.answer {
+            Answer::Done(frame) => Ok(frame),
+            Answer::UnderWay => to_end(|| self.tables().run(record.lend(), u64::MAX)),
+            Answer::Refused(refusal) => Err(refusal),
+        }
     }
 }
 

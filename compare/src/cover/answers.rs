@@ -96,9 +96,24 @@ fn run(seen: &Seen, cases: &mut Vec<String>) {
     if matches!(number, 0 | 2) {
         cases.push(String::from("runs: ended"));
     }
-    if number == 1 && fuel == 0 && seen.record.is_none() {
+    if seen.call.is_one() {
+        cases.extend(one_call(seen));
+    } else if number == 1 && fuel == 0 && seen.record.is_none() {
         cases.push(String::from("runs: handed back no record"));
     }
+}
+
+/// How a get or put begun and run in one call ended.
+fn one_call(seen: &Seen) -> Option<String> {
+    let ended = match (seen.outcome.number, seen.outcome.steps) {
+        (1, Some(0)) => return None,
+        (1, _) => "out of fuel",
+        (0 | 2, _) => "ended",
+        (_, Some(0)) => "refused at once",
+        (_, Some(1)) => "refused by its first step",
+        _ => "refused later",
+    };
+    Some(format!("{}: {ended}", seen.call.name()))
 }
 
 /// The header's first field that is wrong.

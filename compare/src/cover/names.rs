@@ -5,7 +5,7 @@ use crate::cover::runs;
 const TABLES: &str = "header, words, children, trees, cpus none, cpus too many";
 
 /// The numbers that each call may answer.
-const ANSWERS: [(&str, &str); 12] = [
+const ANSWERS: [(&str, &str); 14] = [
     ("create", "1, 14"),
     ("create_step", "0, 1, 11, 14"),
     ("create_run", "0, 1, 11, 14"),
@@ -18,10 +18,12 @@ const ANSWERS: [(&str, &str); 12] = [
     ("put", "1, 3, 4, 5, 7, 9, 10"),
     ("step", "0, 1, 2, 6, 9, 10, 11, 12"),
     ("run", "0, 1, 2, 6, 9, 10, 11, 12"),
+    ("get_run", "0, 1, 2, 3, 7, 9, 10, 12"),
+    ("put_run", "0, 1, 3, 4, 5, 6, 7, 9, 10, 12"),
 ];
 
 /// What each kind of step, entry and scene may come to.
-const CASES: [(&str, &str); 77] = [
+const CASES: [(&str, &str); 86] = [
     ("own", "absent, claimed, short, 12 malformed"),
     ("take count", "taken, 12 malformed"),
     ("fill entry", "held, gone, 12 malformed, 12 sum"),
@@ -99,6 +101,14 @@ const CASES: [(&str, &str); 77] = [
         "order",
         "12 before 6, 12 before 13, 14 before 8, 14 before 11",
     ),
+    (
+        "order in one call",
+        "3 before 4, 4 before 5, 7 before 3, 7 before 4, 7 before 5, 8 before 7, 8 before 9",
+    ),
+    (
+        "order in one call",
+        "9 before 7, 9 before 8, 10 before 7, 10 before 8",
+    ),
     ("9 by", "identifier, format, marker, n, zero bits"),
     ("malformed child", "count, zero bits, taken with a count"),
     (
@@ -121,6 +131,8 @@ const CASES: [(&str, &str); 77] = [
     ("run with fuel", "0, 1, 2, more"),
     ("create_run with fuel", "0, 1, 2, more"),
     ("open_run with fuel", "0, 1, 2, more"),
+    ("get_run with fuel", "0, 1, 2, more"),
+    ("put_run with fuel", "0, 1, 2, more"),
     ("runs", "out of fuel, ended, handed back no record"),
     (
         "cut",
@@ -139,9 +151,20 @@ const CASES: [(&str, &str); 77] = [
         "between",
         "huge get passes a claimed child, one run for two gets",
     ),
+    (
+        "get_run",
+        "refused at once, refused by its first step, refused later, out of fuel, ended",
+    ),
+    (
+        "put_run",
+        "refused at once, refused by its first step, refused later, out of fuel, ended",
+    ),
     ("get 3", "order 7, order 8, order 10, order above 10"),
     ("put 3", "order 7, order 8, order 10, order above 10"),
     ("put 5", "order 9"),
+    ("get_run 3", "order 7, order 8, order 10, order above 10"),
+    ("put_run 3", "order 7, order 8, order 10, order above 10"),
+    ("put_run 5", "order 9"),
     (
         "no record",
         "order 7, order 8, order above 9, order 9 at a word's stage, order where there is none",

@@ -25,10 +25,15 @@ pub fn cases(seen: &Seen) -> Vec<String> {
         12 => damaged(seen),
         _ => uncounted(seen),
     };
+    let order = if seen.call.is_one() {
+        "order in one call"
+    } else {
+        "order"
+    };
     after(first)
         .iter()
         .filter(|later| applies(later))
-        .map(|later| format!("order: {first} before {later}"))
+        .map(|later| format!("{order}: {first} before {later}"))
         .collect()
 }
 
@@ -50,20 +55,20 @@ fn after(first: u64) -> &'static [u64] {
 
 fn bad_cpu(seen: &Seen) -> bool {
     let cpus = seen.pair.library.cpus.len() as u64;
-    matches!(seen.call, Call::Get { cpu, .. } | Call::Put { cpu, .. } if cpu >= cpus)
+    matches!(seen.call.beginning(), Some(Call::Get { cpu, .. } | Call::Put { cpu, .. }) if cpu >= cpus)
 }
 
 fn bad_order(seen: &Seen) -> bool {
-    matches!(seen.call, Call::Get { order, .. } | Call::Put { order, .. } if Order::from_number(order).is_none())
+    matches!(seen.call.beginning(), Some(Call::Get { order, .. } | Call::Put { order, .. }) if Order::from_number(order).is_none())
 }
 
 fn bad_frame(seen: &Seen) -> bool {
     let frames = 512 * seen.pair.library.children.len() as u64;
-    matches!(seen.call, Call::Put { frame, .. } if frame >= frames)
+    matches!(seen.call.beginning(), Some(Call::Put { frame, .. }) if frame >= frames)
 }
 
 fn misaligned(seen: &Seen) -> bool {
-    let Call::Put { frame, order, .. } = seen.call else {
+    let Some(Call::Put { frame, order, .. }) = seen.call.beginning() else {
         return false;
     };
     Order::from_number(order).is_some_and(|order| order.misaligned(frame))

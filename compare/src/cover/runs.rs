@@ -34,14 +34,16 @@ pub const LONGER: [(&str, &str); 3] = [
 /// Cases of a beginning's order, and of a record that has none.
 pub fn cases(seen: &Seen) -> Vec<String> {
     let call = seen.call.name();
-    let case = match (seen.call, seen.outcome.number) {
-        (Call::Get { order, .. } | Call::Put { order, .. }, 1) => {
+    let begun = seen.outcome.number == 1 || seen.outcome.steps.is_some_and(|steps| steps > 0);
+    let beginning = seen.call.beginning().unwrap_or(seen.call);
+    let case = match (beginning, seen.outcome.number) {
+        (Call::Get { order, .. } | Call::Put { order, .. }, _) if begun => {
             Some(format!("{call} begun: order {order}"))
         }
         (Call::Get { order, .. } | Call::Put { order, .. }, 3) => {
             Some(format!("{call} 3: {}", unknown(order)))
         }
-        (Call::Put { order, .. }, 5) => Some(format!("put 5: order {order}")),
+        (Call::Put { order, .. }, 5) => Some(format!("{call} 5: order {order}")),
         (Call::Step | Call::Run { .. }, 11) => forged(seen),
         _ => None,
     };
@@ -157,11 +159,13 @@ pub fn names() -> Vec<String> {
         if order > 0 {
             names.push(format!("fragmented: order {order} gives its count back"));
             names.push(format!("put 5: order {order}"));
+            names.push(format!("put_run 5: order {order}"));
         }
     }
     for order in (0..=9).filter(|&order| Order::from_number(order).is_some()) {
-        names.push(format!("get begun: order {order}"));
-        names.push(format!("put begun: order {order}"));
+        for call in ["get", "put", "get_run", "put_run"] {
+            names.push(format!("{call} begun: order {order}"));
+        }
     }
     names
 }

@@ -41,6 +41,7 @@ pub fn numbers(player: &mut Player) -> Played {
             aligned,
             aligned,
             inside,
+            inside,
             frames - 1,
             frames,
             frames + 1,
@@ -54,6 +55,11 @@ pub fn numbers(player: &mut Player) -> Played {
             Call::Get { cpu, order }
         } else {
             Call::Put { cpu, frame, order }
+        };
+        let call = if rng.percent(50) {
+            call.in_one(states::fuel(rng))
+        } else {
+            call
         };
         let mut slot = Slot::with(vec![states::any(rng), states::any(rng)]);
         let begun = player.call(call, &mut slot)?;

@@ -35,6 +35,13 @@ fn any_call(player: &mut Player, shape: Shape) -> Call {
         Call::Step,
         Call::Step,
         Call::Run { fuel },
+        Call::GetRun { cpu, order, fuel },
+        Call::PutRun {
+            cpu,
+            frame,
+            order,
+            fuel,
+        },
     ])
 }
 

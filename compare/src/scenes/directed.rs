@@ -267,9 +267,12 @@ fn one_run_for_two(player: &mut Player) -> Played {
     Ok(())
 }
 
-/// Begins an operation and runs it to its end.
+/// Begins an operation and runs it to its end, in one call or in two.
 fn ended(player: &mut Player, call: Call) -> Played<Outcome> {
     let mut slot = Slot::new();
+    if player.rng.percent(50) {
+        return player.call(call.in_one(u64::MAX), &mut slot);
+    }
     let begun = player.call(call, &mut slot)?;
     if begun.number != 1 {
         return Ok(begun);

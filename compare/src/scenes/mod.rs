@@ -5,12 +5,13 @@ mod defects;
 mod directed;
 mod forged;
 mod life;
+mod one_call;
 pub mod schedule;
 mod sizes;
 
-use reference::fault::Fault;
 use reference::rng::Rng;
 
+use crate::fault::Fault;
 use crate::player::{Played, Player, Stop};
 
 /// One scene of so many is of the largest zone.
@@ -19,19 +20,20 @@ const LARGEST_EVERY: u64 = 1_000;
 type Scene = fn(&mut Player) -> Played;
 
 /// The scenes, each with its share.
-const SCENES: [(u64, Scene); 17] = [
+const SCENES: [(u64, Scene); 18] = [
     (15, schedule::mixed),
     (8, schedule::crowded),
     (4, schedule::near),
     (40, forged::in_range),
-    (40, forged::damaged),
+    (50, forged::damaged),
     (60, forged::changed),
     (20, forged::runs),
     (4, forged::near),
     (70, forged::short),
-    (60, defects::one),
-    (20, defects::several),
-    (24, beginnings::numbers),
+    (70, defects::one),
+    (50, defects::several),
+    (70, beginnings::numbers),
+    (16, one_call::any),
     (12, life::cycle),
     (12, life::closes),
     (12, life::opens),

@@ -177,8 +177,17 @@ impl Schedule {
             let (frame, order) = self.given_back(player);
             Call::Put { cpu, frame, order }
         };
+        let call = if self.odd && player.rng.percent(10) {
+            call.in_one(states::fuel(&mut player.rng))
+        } else {
+            call
+        };
         let slot = &mut self.slots[self.slot];
-        player.call(call, slot).map(|_| ())
+        let outcome = player.call(call, slot)?;
+        if let (Call::GetRun { order, .. }, 0) = (call, outcome.number) {
+            self.held.push((outcome.frame, order));
+        }
+        Ok(())
     }
 
     /// A block to put: one that a get answered, now and then any.
@@ -235,6 +244,17 @@ impl Schedule {
             Call::OpenStep,
             Call::Settled,
             Call::Run { fuel: 1 },
+            Call::GetRun {
+                cpu: 0,
+                order: 0,
+                fuel: 9,
+            },
+            Call::PutRun {
+                cpu: 0,
+                frame: 0,
+                order: 0,
+                fuel: 9,
+            },
         ]);
         player.call(call, &mut slot).map(|_| ())
     }

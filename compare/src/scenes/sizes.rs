@@ -74,8 +74,10 @@ pub fn largest(player: &mut Player) -> Played {
     }
     for order in [0, 3, 6, 9] {
         let mut slot = Slot::new();
-        player.call(Call::Get { cpu: 63, order }, &mut slot)?;
-        player.call(Call::Run { fuel: u64::MAX }, &mut slot)?;
+        let (cpu, fuel) = (63, u64::MAX);
+        player.call(Call::Get { cpu, order }, &mut slot)?;
+        player.call(Call::Run { fuel }, &mut slot)?;
+        player.call(Call::GetRun { cpu, order, fuel }, &mut slot)?;
     }
     Ok(())
 }

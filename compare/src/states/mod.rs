@@ -35,6 +35,11 @@ pub fn any(rng: &mut Rng) -> u64 {
     rng.below(1 << 32) << 32 | rng.below(1 << 32)
 }
 
+/// The steps that a get or put in one call is allowed: few, or enough.
+pub fn fuel(rng: &mut Rng) -> u64 {
+    rng.pick(&[0, 1, 2, 3, 5, 10, 1_000, u64::MAX])
+}
+
 /// A random word: empty, full, one zero bit, one set bit, fragments, or anything.
 pub fn word(rng: &mut Rng) -> u64 {
     match rng.below(11) {

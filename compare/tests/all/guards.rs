@@ -1,6 +1,6 @@
 //! The library stores nothing beside the slices that it is lent.
 
-use compare::call::Call;
+use compare::call::{Call, Outcome};
 use compare::library::Packed;
 use compare::record::stage;
 use compare::states;
@@ -22,7 +22,7 @@ fn middle<E>(table: &mut [E]) -> &mut [E] {
     &mut table[GUARD..length - GUARD]
 }
 
-/// Makes one step on slices of guarded tables, as on the tables themselves.
+/// Makes one step, or a get or put in one call, on slices of guarded tables, as on the tables themselves.
 fn step(packed: &mut Packed, call: Call, record: &mut [u64]) {
     let mut header = guarded(&packed.header, u64::MAX);
     let mut words = guarded(&packed.words, u64::MAX);
@@ -37,13 +37,21 @@ fn step(packed: &mut Packed, call: Call, record: &mut [u64]) {
         trees: middle(&mut trees),
         cpus: middle(&mut cpus),
     };
+    let lend = middle(&mut lent);
     let answered = match call {
-        Call::CreateStep { n } => tables.create_step(middle(&mut lent), n),
-        Call::OpenStep => tables.open_step(middle(&mut lent)),
-        _ => tables.step(middle(&mut lent)),
+        Call::CreateStep { n } => tables.create_step(lend, n).into(),
+        Call::OpenStep => tables.open_step(lend).into(),
+        Call::GetRun { cpu, order, fuel } => tables.get_run(lend, cpu, order, fuel).into(),
+        Call::PutRun {
+            cpu,
+            frame,
+            order,
+            fuel,
+        } => tables.put_run(lend, cpu, frame, order, fuel).into(),
+        _ => tables.step(lend).into(),
     };
-    let outcome = packed.call(&call, record);
-    assert_eq!(outcome, answered.into());
+    let outcome: Outcome = packed.call(&call, record);
+    assert_eq!(outcome, answered);
     assert_eq!(header, guarded(&packed.header, u64::MAX));
     assert_eq!(words, guarded(&packed.words, u64::MAX));
     assert_eq!(children, guarded(&packed.children, u16::MAX));
@@ -70,7 +78,14 @@ fn nothing_is_stored_beside_the_slices() {
             2 => packed.children.truncate(rng.below(70) as usize),
             _ => {}
         }
+        let (cpu, order) = (rng.below(9), rng.below(10));
+        let frame = rng.below(512 * shape.n as u64) >> order << order;
+        let fuel = states::fuel(&mut rng);
         let call = match number {
+            stage::CLEAR..=stage::TO_TREE if rng.percent(50) => {
+                Call::Put { cpu, frame, order }.in_one(fuel)
+            }
+            stage::OWN..=stage::NO_ROOM if rng.percent(20) => Call::Get { cpu, order }.in_one(fuel),
             stage::CREATE_WORDS..=stage::CREATE_HEADER => Call::CreateStep { n: shape.n as u64 },
             stage::OPEN_CHILDREN..=stage::OPEN_CPUS => Call::OpenStep,
             _ => Call::Step,

@@ -2,11 +2,12 @@
 
 use compare::call::{Call, Outcome};
 use compare::difference::{self, Unequal, What};
+use compare::fault::{Fault, OneCall};
 use compare::pair::{Pair, Side};
 use compare::player::{Player, Slot, Stop};
 use compare::states;
 use compare::translate::Shape;
-use reference::fault::Fault;
+use reference::fault::Fault as Rule;
 use reference::layout::{Child, CpuEntry, Header, Tree, Word};
 use reference::rng::Rng;
 use reference::zone::Zone;
@@ -97,7 +98,7 @@ fn stopped(fault: Fault) -> String {
 
 #[test]
 fn a_report_has_the_call_and_both_values() {
-    let report = stopped(Fault::BitBeforeCount);
+    let report = stopped(Fault::Rule(Rule::BitBeforeCount));
     let lines: Vec<&str> = report.lines().collect();
     assert_eq!(
         lines,
@@ -121,4 +122,62 @@ fn the_wanted_number_of_calls_is_made() {
     }
     let third = player.call(Call::Settled, &mut Slot::new());
     assert!(matches!(third, Err(Stop::Enough)));
+}
+
+/// What shows a fault of a get and a put in one call, with the given fuel.
+fn shown(fault: OneCall, call: Call, fuel: u64) -> Option<What> {
+    let fault = Some(Fault::OneCall(fault));
+    let mut pair = Pair::new(states::fresh(SHAPE), fault, Side::default());
+    let (_, unequal) = pair.call(&call.in_one(fuel), &mut [7, 7]);
+    unequal.map(|found| found.what)
+}
+
+#[test]
+fn faults_of_one_call_are_named() {
+    let (cpu, frame, order) = (2, 0, 0);
+    let get = Call::Get { cpu, order };
+    let put = Call::Put { cpu, frame, order };
+    let refused = Call::Get { cpu: 3, order };
+    for (fault, call, fuel, what) in [
+        (OneCall::BeginCounted, get, u64::MAX, What::Steps),
+        (OneCall::BeginCounted, get, 0, What::Steps),
+        (OneCall::BeginCounted, put, 1, What::Steps),
+        (OneCall::BeginTakesFuel, get, 4, What::Steps),
+        (OneCall::BeginTakesFuel, put, 1, What::Answer),
+        (OneCall::RecordLost, get, 4, What::Record(0)),
+        (OneCall::RecordLost, put, 0, What::Record(0)),
+        (OneCall::RecordOfBegin, get, 4, What::Record(0)),
+        (OneCall::RefusedKeepsRecord, refused, 4, What::Record(0)),
+        (OneCall::RefusedRuns, refused, 4, What::Answer),
+    ] {
+        assert_eq!(shown(fault, call, fuel), Some(what), "{fault:?}, {call}");
+    }
+    for (fault, call, fuel) in [
+        (OneCall::BeginCounted, refused, 4),
+        (OneCall::BeginTakesFuel, get, u64::MAX),
+        (OneCall::RecordLost, get, u64::MAX),
+        (OneCall::RecordOfBegin, get, 0),
+        (OneCall::RefusedRuns, put, u64::MAX),
+    ] {
+        assert_eq!(shown(fault, call, fuel), None, "{fault:?}, {call}");
+    }
+    for &fault in OneCall::ALL {
+        let named = Fault::named(fault.name());
+        assert_eq!(named, Some(Fault::OneCall(fault)));
+    }
+}
+
+#[test]
+fn a_get_and_a_put_in_one_call_are_written_with_their_numbers() {
+    let (cpu, frame, order) = (1, 512, 9);
+    let get = Call::Get { cpu, order }.in_one(4);
+    let put = Call::Put { cpu, frame, order }.in_one(0);
+    assert_eq!(get.to_string(), "get_run(cpu 1, order 9, fuel 4)");
+    assert_eq!(
+        put.to_string(),
+        "put_run(cpu 1, frame 512, order 9, fuel 0)"
+    );
+    assert_eq!(get.beginning(), Some(Call::Get { cpu, order }));
+    assert_eq!(put.beginning(), Some(Call::Put { cpu, frame, order }));
+    assert_eq!(Call::Step.in_one(4), Call::Step);
 }

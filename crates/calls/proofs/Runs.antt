@@ -8,8 +8,8 @@ use Rattle.rules.specs.Plan.{Plan}
 use Rattle.rules.specs.Answers.{number, ends, goesOn, nextOf}
 use Rattle.rules.specs.Step.{ran, follow}
 use Rattle.rules.proofs.Histories.{answer-elim}
-use Rattle.calls.specs.Types.{Record, Answer, Next}
-use Rattle.calls.specs.Results.{Result, result, done, nextIn}
+use Rattle.calls.specs.Types.{Record, Answer, Next, Way}
+use Rattle.calls.specs.Results.{Result, result, done, nextIn, wayBy, wayOf, wentTo}
 
 -- what the next record tells of the answer
 abbrev pub NextTells : Answer → Next → Type 0
@@ -34,7 +34,7 @@ module _ (f : Zone → Record → Plan) (fuel k : ℕ) (z : Zone) (r : Record) w
   run-out h = let e : fuel - k ≡ 0 = omega arith in rw e
 
   module _ {a : Answer} {z′ : Zone} {m : Next} (h : k < fuel) (e : result a z′ ≡ done z (f z r)) (n : m ≡ nextIn a) where
-    stepped : follow f (fuel - k) k (Answer.UnderWay r) z ≡ follow f (fuel - (k + 1)) (k + 1) a z′
+    pub stepped : follow f (fuel - k) k (Answer.UnderWay r) z ≡ follow f (fuel - (k + 1)) (k + 1) a z′
     unfolding follow
     stepped =
         let d : fuel - k ≡ suc (fuel - (k + 1)) = omega arith in
@@ -45,3 +45,13 @@ module _ (f : Zone → Record → Plan) (fuel k : ℕ) (z : Zone) (r : Record) w
 
     pub run-ends : m ≡ Next.Ends → ran a (k + 1) z′ ≡ follow f (fuel - k) k (Answer.UnderWay r) z
     run-ends q = sym (stepped ∙ follow-ended f (fuel - (k + 1)) (k + 1) a z′ (subst (NextTells a) (sym n ∙ q) (next-tells a)))
+
+-- a run that goes on as an answer says
+module _ (f : Zone → Record → Plan) (fuel k : ℕ) (a : Answer) (z : Zone) where
+  by-next : (n : Next) → NextTells a n → wentTo f fuel (wayBy a k n) z ≡ follow f (fuel - k) k a z
+  unfolding wentTo wayBy
+  by-next Next.Ends e = sym (follow-ended f (fuel - k) k a z e)
+  by-next (Next.GoesOn r) e = ap (λ y. follow f (fuel - k) k y z) (sym e)
+
+  pub way-goes : wentTo f fuel (wayOf a k) z ≡ follow f (fuel - k) k a z
+  way-goes = by-next (nextIn a) (next-tells a)

@@ -1,15 +1,15 @@
 -- What a call answers, with all five tables as it leaves them.
 use mathlib.Core.Path.{_≡_}
 use mathlib.Core.List.{List}
-use Prim.Native.Nat.{ℕ}
+use Prim.Native.Nat.{ℕ, _-_, _<_}
 use lib.ListN.{length}
 use Rattle.laws.specs.Tests.{pick, passes, Passes}
 use Rattle.rules.specs.Zone.{Zone}
 use Rattle.rules.specs.Answers.{byAnswer}
 use Rattle.rules.specs.Plan.{Plan}
-use Rattle.rules.specs.Step.{after, Ran, ran}
+use Rattle.rules.specs.Step.{after, Ran, ran, follow}
 use Rattle.entries.specs.Sizes.{zonedIn, lengthsOf}
-use Rattle.calls.specs.Types.{Answer, Zoned, Shape, Checked, Next, Ended}
+use Rattle.calls.specs.Types.{Answer, Zoned, Shape, Record, Checked, Next, Ended, Way}
 
 abbrev pub zone : List ℕ → List ℕ → List ℕ → List ℕ → List ℕ → Zone
 zone h w c t p = record { header = h; words = w; children = c; trees = t; cpus = p }
@@ -45,6 +45,29 @@ pub record Fits (s : Shape) (ws cs ts ps : List ℕ) : Type 0 where
   pub lengths : Passes (lengthsOf (s .size) (length ws) (length cs) (length ts) (length ps))
   pub cpus : s .cpus ≡ length ps
 
+-- the tables of an open zone of that shape, which has that CPU
+pub record Opened (s : Shape) (cpu : ℕ) (h ws cs ts ps : List ℕ) : Type 0 where
+  pub checks : checked h (length ws) (length cs) (length ts) (length ps) ≡ Checked.Zone s
+  pub cpu-in : cpu < s .cpus
+
 -- ---- the record that an answer goes on with
 abbrev pub nextIn : Answer → Next
 nextIn a = byAnswer a (λ f. Next.Ends) Next.GoesOn Next.Ends
+
+-- ---- how a run goes on: what byNext makes of an answer, and the run's end
+
+unfoldable pub wayBy : Answer → ℕ → Next → Way
+wayBy a k Next.Ends = Way.Ends (record { answer = a; steps = k })
+wayBy a k (Next.GoesOn r) = Way.Goes r k
+
+abbrev pub wayOf : Answer → ℕ → Way
+wayOf a k = wayBy a k (nextIn a)
+
+-- the end of a run of at most `fuel` steps that goes on so, in the zone as it stands
+unfoldable pub wentTo : (Zone → Record → Plan) → ℕ → Way → Zone → Ran
+wentTo f fuel (Way.Ends e) z = ranTo e z
+wentTo f fuel (Way.Goes r k) z = follow f (fuel - k) k (Answer.UnderWay r) z
+
+-- a run that stood at record r of zone z after k steps went on so, and left the zone z′
+abbrev pub WentOn : (Zone → Record → Plan) → ℕ → ℕ → Record → Way → Zone → Zone → Type 0
+WentOn f fuel k r y z′ z = wentTo f fuel y z′ ≡ follow f (fuel - k) k (Answer.UnderWay r) z

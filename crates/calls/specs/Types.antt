@@ -9,3 +9,4 @@ pub use Rattle.places.specs.declared.Shape.{Shape}
 pub use Rattle.calls.specs.declared.Checked.{Checked}
 pub use Rattle.calls.specs.declared.Ended.{Ended}
 pub use Rattle.calls.specs.declared.Next.{Next}
+pub use Rattle.calls.specs.declared.Way.{Way}

@@ -1,6 +1,6 @@
 // What every call on an open zone begins with, the answers that go on with a stage, and what a run goes by.
 ghost use mathlib.Core.Path.{_≡_};
-ghost use Rattle.calls.specs.Results.{checked, nextIn};
+ghost use Rattle.calls.specs.Results.{checked, nextIn, wayOf};
 use entries::Zoned;
 use places::Shape;
 use rules::Answer;
@@ -83,5 +83,21 @@ pub fn next_of(answer: Answer) -> Next
         Answer::Damaged => Next::Ends,
         Answer::NotSettled => Next::Ends,
         Answer::BadSize => Next::Ends,
+    }
+}
+
+// How a run goes on: it has ended, or it goes on with a record after so many steps.
+pub enum Way {
+    Ends(Ended),
+    Goes { rec: Record, steps: u64 },
+}
+
+// What an answer makes of a run.
+pub fn way_of(answer: Answer, steps: u64) -> Way
+    ensures { λ r. ⌜ r ≡ wayOf answer steps ⌝ }
+{
+    match next_of(answer) {
+        Next::Ends => Way::Ends(Ended { answer, steps }),
+        Next::GoesOn(rec) => Way::Goes { rec, steps },
     }
 }

@@ -1,5 +1,5 @@
 -- A call on a record slice of its length and of another; one step of a run.
-use mathlib.Core.Path.{_≡_, refl, sym, ap, ap₂, _∙_}
+use mathlib.Core.Path.{_≡_, refl, sym, ap, ap₂, subst, _∙_}
 use mathlib.Core.Logic.{_≢_}
 use mathlib.Core.Bool.{Bool, true, false, not}
 use mathlib.Core.List.{List, [], _∷_}
@@ -8,13 +8,14 @@ use native.Mathlib.Omega.{arith}
 use lib.Dec.{eqb, ltb}
 use lib.ListN.{length, getD, set}
 use borrow.Author.Tests.{eq-eqb, ne-eqb, eqb-true, eqb-false, ltb-true, ltb-false, not-true, not-false}
+use Rattle.laws.specs.Fields.{join, width}
 use Rattle.laws.specs.Tests.{pick, passes}
 use Rattle.laws.specs.Tables.{Outcome, outcome}
 use Rattle.laws.proofs.Tests.{pick-elim, pick-yes, pick-no, all-passed, passes-of, fails-of}
 use Rattle.rules.specs.Numbers.{mostHuge}
 use Rattle.rules.specs.Entries.{headerSays}
 use Rattle.rules.specs.Zone.{Zone, headerOf}
-use Rattle.rules.specs.Answers.{number, frameOf, recordOf}
+use Rattle.rules.specs.Answers.{number, frameOf, byNext, recordOf}
 use Rattle.rules.specs.Plan.{Plan, refuse, guarded}
 use Rattle.rules.specs.Checks.{headerChecks, isMalformed, isClean}
 use Rattle.rules.specs.Create.{sizeChecks}
@@ -23,9 +24,11 @@ use Rattle.rules.specs.declared.Header.{Header}
 use Rattle.rules.proofs.Ways.{allowed}
 use Rattle.entries.specs.Sizes.{byHeader, zonedIn}
 use Rattle.entries.specs.declared.Zoned.{Zoned}
-use Rattle.calls.specs.Results.{zone, Result, result, done}
+use Rattle.calls.specs.declared.Next.{Next}
+use Rattle.calls.specs.Results.{zone, Result, result, done, nextIn}
 use Rattle.calls.proofs.Opened.{zonedBy}
-use Rattle.records.specs.Encoding.{encode}
+use Rattle.calls.proofs.Runs.{NextTells, next-tells, follow-ended}
+use Rattle.records.specs.Encoding.{fieldsOf, encode}
 use Rattle.capi.specs.Types.{Record, Answer, Words, Answered, Ran}
 use Rattle.capi.specs.Calls.{answeredAs, ranAs, laidDown, handedBack, noRecord, noCreateRecord, Called, called, made, followed, madeAlone, lengthFor}
 
@@ -37,9 +40,22 @@ two (x ∷ []) a b e = absurd (omega arith)
 two (x ∷ y ∷ []) a b e = refl
 two (x ∷ y ∷ v ∷ l) a b e = absurd (omega arith)
 
-pub laid : (a : Answer) (l : List ℕ) {r : Record} {w : Words} → length l ≡ 2 → r ≡ recordOf a → w ≡ encode r → set (set l 0 (w .first)) 1 (w .second) ≡ handedBack a l
-unfolding handedBack
-laid a l e p q = two l _ _ e ∙ ap laidDown (q ∙ ap encode p) ∙ sym (pick-yes _ _ _ (eq-eqb _ _ e))
+finished-words : encode Record.Finished ≡ record { first = 0; second = 0 }
+unfolding encode fieldsOf join width
+finished-words = refl
+
+module _ (a : Answer) (l : List ℕ) (e : length l ≡ 2) where
+  laid : (r : Record) → recordOf a ≡ r → {w : Words} → w ≡ encode r → set (set l 0 (w .first)) 1 (w .second) ≡ handedBack a l
+  unfolding handedBack
+  laid r p q = two l _ _ e ∙ ap laidDown (q ∙ ap encode (sym p)) ∙ sym (pick-yes _ _ _ (eq-eqb _ _ e))
+
+  -- the next record, or the finished one, two zero words
+  module _ {m : Next} (n : m ≡ nextIn a) where
+    pub laid-next : {r : Record} {w : Words} → m ≡ Next.GoesOn r → w ≡ encode r → set (set l 0 (w .first)) 1 (w .second) ≡ handedBack a l
+    laid-next {r} k q = laid r (ap recordOf (subst (NextTells a) (sym n ∙ k) (next-tells a))) q
+
+    pub laid-last : m ≡ Next.Ends → set (set l 0 0) 1 0 ≡ handedBack a l
+    laid-last k = laid Record.Finished (ap (λ x. byNext x Record.Finished (λ r. r)) (subst (NextTells a) (sym n ∙ k) (next-tells a))) (sym finished-words)
 
 pub left-alone : (a : Answer) (l : List ℕ) → length l ≢ 2 → l ≡ handedBack a l
 unfolding handedBack
@@ -81,6 +97,22 @@ module _ (e : Answer) (z : Zone) (l : List ℕ) where
 -- the run of the record that is lent
 pub lent : (f : Zone → Record → Plan) (n : ℕ) (z : Zone) {r s : Record} → r ≡ s → rules.follow f n 0 (Answer.UnderWay r) z ≡ rules.follow f n 0 (Answer.UnderWay s) z
 lent f n z e = ap (λ r. rules.follow f n 0 (Answer.UnderWay r) z) e
+
+-- what follows an answer: nothing where it ends the operation, else the run of its record; and the answer of a beginning
+module _ (f : Zone → Record → Plan) (n : ℕ) (z : Zone) (a : Answer) where
+  module _ {m : Next} (k : m ≡ nextIn a) where
+    pub ended-at-once : m ≡ Next.Ends → rules.ran a 0 z ≡ rules.follow f n 0 a z
+    ended-at-once e = sym (follow-ended f n 0 a z (subst (NextTells a) (sym k ∙ e) (next-tells a)))
+
+    pub goes-on : {r : Record} {o : rules.Ran} → m ≡ Next.GoesOn r → o ≡ rules.follow f n 0 (Answer.UnderWay r) z → o ≡ rules.follow f n 0 a z
+    goes-on e q = q ∙ ap (λ x. rules.follow f n 0 x z) (sym (subst (NextTells a) (sym k ∙ e) (next-tells a)))
+
+  pub begun-by : (e : Answer) (l : List ℕ) (p : Plan) {o : Called Ran} → result a z ≡ done z p → o ≡ followed e z l (rules.follow f n 0 a z) → o ≡ followed e z l (rules.follow f n 0 (p .answer) z)
+  begun-by e l p b q = q ∙ ap (λ (x : Result). followed e z l (rules.follow f n 0 (x .answer) z)) b
+
+-- the step of the record that is lent
+pub lent-step : (f : Zone → Record → Plan) (z : Zone) {a : Answer} {z′ : Zone} {r s : Record} → r ≡ s → result a z′ ≡ done z (f z r) → result a z′ ≡ done z (f z s)
+lent-step f z e q = q ∙ ap (λ x. done z (f z x)) e
 
 -- a call without a record
 pub made-alone : (z : Zone) (p : Plan) {a : Answer} {z′ : Zone} {s : Answered} → result a z′ ≡ done z p → s ≡ answeredAs a → called s z′ [] ≡ madeAlone z p

@@ -5,6 +5,7 @@ ghost use mathlib.Core.Path.{_≡_};
 ghost use mathlib.Core.Bool.{not};
 ghost use mathlib.Core.List.{[]};
 ghost use Prim.Native.Nat.{_*_};
+ghost use lib.ListN.{length};
 ghost use Rattle.laws.specs.Tests.{passes};
 ghost use Rattle.laws.specs.Tables.{outcome};
 ghost use Rattle.rules.specs.Numbers.{childWords};
@@ -14,7 +15,8 @@ ghost use Rattle.rules.specs.Step.{step, runs, follow};
 ghost use Rattle.rules.specs.Create.{sizeChecks, createZone, createStep};
 ghost use Rattle.rules.specs.Open.{openZone, openStep, closeZone};
 ghost use Rattle.calls.specs.Results.{zone};
-ghost use Rattle.capi.specs.Calls.{answeredAs, ranAs, lentIn, handedBack, noRecord, noCreateRecord, called, made, followed, madeAlone, lengthFor, treesFor};
+ghost use Rattle.capi.specs.Calls.{recordWords, answeredAs, ranAs, lentIn, handedBack, noRecord, noCreateRecord, called, made, followed, madeAlone, lengthFor, treesFor};
+use calls::Next;
 use entries::Zoned;
 use rules::Answer;
 use rules::Frame;
@@ -97,9 +99,17 @@ fn hand_back(rec: &mut [u64], answer: Answer)
     ensures { λ r. ⌜ now (rec .exit) ≡ handedBack answer (now (rec .entry)) ⌝ }
 {
     if rec.len() == RECORD {
-        let words = records::encode(records::record_of(answer));
-        rec[0] = words.first;
-        rec[1] = words.second;
+        match calls::next_of(answer) {
+            Next::GoesOn(next) => {
+                let words = records::encode(next);
+                rec[0] = words.first;
+                rec[1] = words.second;
+            }
+            Next::Ends => {
+                rec[0] = 0;
+                rec[1] = 0;
+            }
+        }
     }
 }
 
@@ -190,8 +200,31 @@ pub extern "C" fn lovarntek_put(
     told(answer)
 }
 
-// The one way into a get's or put's steps: up to `fuel` of them.
-fn go_on(
+#[no_mangle]
+pub extern "C" fn lovarntek_step(
+    header: &[u64],
+    words: &mut [u64],
+    children: &mut [u16],
+    trees: &mut [u16],
+    cpus: &mut [u64],
+    rec: &mut [u64],
+) -> Answered
+    ensures { λ r. ⌜ called r (zone (now (header .entry)) (now (words .exit)) (now (children .exit)) (now (trees .exit)) (now (cpus .exit))) (now (rec .exit)) ≡ made (noRecord Answer.Closed (now (header .entry))) (zone (now (header .entry)) (now (words .entry)) (now (children .entry)) (now (trees .entry)) (now (cpus .entry))) (now (rec .entry)) (step (zone (now (header .entry)) (now (words .entry)) (now (children .entry)) (now (trees .entry)) (now (cpus .entry))) (lentIn (now (rec .entry)))) ⌝ }
+{
+    if rec.len() != RECORD {
+        return told(no_record(header, Answer::Closed));
+    }
+    let given = records::decode(records::Words {
+        first: rec[0],
+        second: rec[1],
+    });
+    let answer = upper::step(header, words, children, trees, cpus, given);
+    hand_back(rec, answer);
+    told(answer)
+}
+
+#[no_mangle]
+pub extern "C" fn lovarntek_run(
     header: &[u64],
     words: &mut [u64],
     children: &mut [u16],
@@ -209,42 +242,85 @@ fn go_on(
         first: rec[0],
         second: rec[1],
     });
-    let ended = upper::run(header, words, children, trees, cpus, given, fuel);
+    let ended = runs::run(header, words, children, trees, cpus, given, fuel);
     let answer = ended.answer;
     told_run(rec, answer, ended.steps)
 }
 
-#[no_mangle]
-pub extern "C" fn lovarntek_step(
+// What follows a beginning's answer: up to `fuel` steps, where the operation is under way.
+fn begun(
     header: &[u64],
     words: &mut [u64],
     children: &mut [u16],
     trees: &mut [u16],
     cpus: &mut [u64],
     rec: &mut [u64],
-) -> Answered
-    ensures { λ r. ⌜ called r (zone (now (header .entry)) (now (words .exit)) (now (children .exit)) (now (trees .exit)) (now (cpus .exit))) (now (rec .exit)) ≡ made (noRecord Answer.Closed (now (header .entry))) (zone (now (header .entry)) (now (words .entry)) (now (children .entry)) (now (trees .entry)) (now (cpus .entry))) (now (rec .entry)) (step (zone (now (header .entry)) (now (words .entry)) (now (children .entry)) (now (trees .entry)) (now (cpus .entry))) (lentIn (now (rec .entry)))) ⌝ }
+    answer: Answer,
+    fuel: u64,
+) -> Ran
+    requires { ⌜ length (now rec) ≡ recordWords ⌝ }
+    ensures { λ r. ⌜ called r (zone (now (header .entry)) (now (words .exit)) (now (children .exit)) (now (trees .exit)) (now (cpus .exit))) (now (rec .exit)) ≡ followed (noRecord Answer.Closed (now (header .entry))) (zone (now (header .entry)) (now (words .entry)) (now (children .entry)) (now (trees .entry)) (now (cpus .entry))) (now (rec .entry)) (follow step fuel 0 answer (zone (now (header .entry)) (now (words .entry)) (now (children .entry)) (now (trees .entry)) (now (cpus .entry)))) ⌝ }
 {
-    let ran = go_on(header, words, children, trees, cpus, rec, 1);
-    Answered {
-        number: ran.number,
-        frame: ran.frame,
+    match calls::next_of(answer) {
+        Next::Ends => told_run(rec, answer, 0),
+        Next::GoesOn(next) => {
+            let ended = runs::run(header, words, children, trees, cpus, next, fuel);
+            let last = ended.answer;
+            told_run(rec, last, ended.steps)
+        }
     }
 }
 
 #[no_mangle]
-pub extern "C" fn lovarntek_run(
+pub extern "C" fn lovarntek_get_run(
     header: &[u64],
     words: &mut [u64],
     children: &mut [u16],
     trees: &mut [u16],
     cpus: &mut [u64],
     rec: &mut [u64],
+    cpu: u64,
+    order: u64,
     fuel: u64,
 ) -> Ran
-    ensures { λ r. ⌜ called r (zone (now (header .entry)) (now (words .exit)) (now (children .exit)) (now (trees .exit)) (now (cpus .exit))) (now (rec .exit)) ≡ followed (noRecord Answer.Closed (now (header .entry))) (zone (now (header .entry)) (now (words .entry)) (now (children .entry)) (now (trees .entry)) (now (cpus .entry))) (now (rec .entry)) (runs fuel (zone (now (header .entry)) (now (words .entry)) (now (children .entry)) (now (trees .entry)) (now (cpus .entry))) (lentIn (now (rec .entry)))) ⌝ }
+    ensures { λ r. ⌜ called r (zone (now (header .entry)) (now (words .exit)) (now (children .exit)) (now (trees .exit)) (now (cpus .exit))) (now (rec .exit)) ≡ followed (noRecord Answer.Closed (now (header .entry))) (zone (now (header .entry)) (now (words .entry)) (now (children .entry)) (now (trees .entry)) (now (cpus .entry))) (now (rec .entry)) (follow step fuel 0 (beginGet (zone (now (header .entry)) (now (words .entry)) (now (children .entry)) (now (trees .entry)) (now (cpus .entry))) cpu order .answer) (zone (now (header .entry)) (now (words .entry)) (now (children .entry)) (now (trees .entry)) (now (cpus .entry)))) ⌝ }
 {
-    go_on(header, words, children, trees, cpus, rec, fuel)
+    if rec.len() != RECORD {
+        return told_run(rec, no_record(header, Answer::Closed), 0);
+    }
+    let answer = begins::begin_get(header, words, children, trees, cpus, cpu, order);
+    begun(header, words, children, trees, cpus, rec, answer, fuel)
+}
+
+#[no_mangle]
+pub extern "C" fn lovarntek_put_run(
+    header: &[u64],
+    words: &mut [u64],
+    children: &mut [u16],
+    trees: &mut [u16],
+    cpus: &mut [u64],
+    rec: &mut [u64],
+    cpu: u64,
+    first: u64,
+    order: u64,
+    fuel: u64,
+) -> Ran
+    ensures { λ r. ⌜ called r (zone (now (header .entry)) (now (words .exit)) (now (children .exit)) (now (trees .exit)) (now (cpus .exit))) (now (rec .exit)) ≡ followed (noRecord Answer.Closed (now (header .entry))) (zone (now (header .entry)) (now (words .entry)) (now (children .entry)) (now (trees .entry)) (now (cpus .entry))) (now (rec .entry)) (follow step fuel 0 (beginPut (zone (now (header .entry)) (now (words .entry)) (now (children .entry)) (now (trees .entry)) (now (cpus .entry))) cpu (frame first) order .answer) (zone (now (header .entry)) (now (words .entry)) (now (children .entry)) (now (trees .entry)) (now (cpus .entry)))) ⌝ }
+{
+    if rec.len() != RECORD {
+        return told_run(rec, no_record(header, Answer::Closed), 0);
+    }
+    let answer = begins::begin_put(
+        header,
+        words,
+        children,
+        trees,
+        cpus,
+        cpu,
+        Frame(first),
+        order,
+    );
+    begun(header, words, children, trees, cpus, rec, answer, fuel)
 }
 
 // ---- create

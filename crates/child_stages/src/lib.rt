@@ -29,7 +29,7 @@ const TREE_CHILDREN: usize = 32;
 
 // ---- a tree's part, lent
 
-fn claim(children: &mut [u16], shape: Shape, tree: Tree, child: u8, frames: u16) -> Claimed
+pub fn claim(children: &mut [u16], shape: Shape, tree: Tree, child: u8, frames: u16) -> Claimed
     ensures { λ r. ⌜ outcome r (now (children .exit)) ≡ lentChildren (shapeOf shape) tree Claimed.NoChild (λ l. claimIn frames l child) (now (children .entry)) ⌝ }
 {
     let first = tree.0 as usize * TREE_CHILDREN;
@@ -40,7 +40,7 @@ fn claim(children: &mut [u16], shape: Shape, tree: Tree, child: u8, frames: u16)
     lower::claim(&mut children[first..end], child as usize, frames)
 }
 
-fn take_huge(children: &mut [u16], shape: Shape, tree: Tree, child: u8) -> Claimed
+pub fn take_huge(children: &mut [u16], shape: Shape, tree: Tree, child: u8) -> Claimed
     ensures { λ r. ⌜ outcome r (now (children .exit)) ≡ lentChildren (shapeOf shape) tree Claimed.NoChild (λ l. takeHugeIn l child) (now (children .entry)) ⌝ }
 {
     let first = tree.0 as usize * TREE_CHILDREN;
@@ -51,7 +51,7 @@ fn take_huge(children: &mut [u16], shape: Shape, tree: Tree, child: u8) -> Claim
     lower::take_huge(&mut children[first..end], child as usize)
 }
 
-fn give_count(children: &mut [u16], shape: Shape, tree: Tree, child: u8, frames: u16) -> Given
+pub fn give_count(children: &mut [u16], shape: Shape, tree: Tree, child: u8, frames: u16) -> Given
     ensures { λ r. ⌜ outcome r (now (children .exit)) ≡ lentChildren (shapeOf shape) tree Given.NoChild (λ l. giveIn frames l child) (now (children .entry)) ⌝ }
 {
     let first = tree.0 as usize * TREE_CHILDREN;
@@ -62,7 +62,7 @@ fn give_count(children: &mut [u16], shape: Shape, tree: Tree, child: u8, frames:
     lower::give_count(&mut children[first..end], child as usize, frames)
 }
 
-fn clear_huge(children: &mut [u16], shape: Shape, tree: Tree, child: u8) -> Given
+pub fn clear_huge(children: &mut [u16], shape: Shape, tree: Tree, child: u8) -> Given
     ensures { λ r. ⌜ outcome r (now (children .exit)) ≡ lentChildren (shapeOf shape) tree Given.NoChild (λ l. clearHugeIn l child) (now (children .entry)) ⌝ }
 {
     let first = tree.0 as usize * TREE_CHILDREN;

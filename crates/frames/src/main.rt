@@ -231,7 +231,7 @@ fn run(
     ensures { λ r. ⌜ ranTo r (zone (now (header .entry)) (now (words .exit)) (now (children .exit)) (now (trees .exit)) (now (cpus .exit))) ≡ follow step fuel 0 answer (zone (now (header .entry)) (now (words .entry)) (now (children .entry)) (now (trees .entry)) (now (cpus .entry))) ⌝ }
 {
     match calls::next_of(answer) {
-        Next::GoesOn(rec) => upper::run(header, words, children, trees, cpus, rec, FUEL),
+        Next::GoesOn(rec) => runs::run(header, words, children, trees, cpus, rec, FUEL),
         Next::Ends => Ended { answer, steps: 0 },
     }
 }

@@ -1,3 +1,4 @@
 pub mod Refusals
 pub mod Stages
 pub mod Steps
+pub mod Recounts

@@ -59,7 +59,7 @@ module _ (g : Rules) (z : Zone) (s : Opening) where
   stage-elim Q x y = pick-elim Q (not (openingSound g z s)) (λ b. x) (λ b. y)
 
 -- the tables that a stage reads
-abbrev childZone : List ℕ → List ℕ → Zone
+abbrev pub childZone : List ℕ → List ℕ → Zone
 childZone w l = zone [] w l [] []
 
 abbrev treeZone : List ℕ → List ℕ → Zone

@@ -2,7 +2,7 @@
 // One store a step; the first makes all checks. Words and children are read and stored by the lower level alone.
 ghost use mathlib.Core.Path.{_≡_};
 ghost use mathlib.Core.List.{[]};
-ghost use Prim.Native.Nat.{_*_, _<_};
+ghost use Prim.Native.Nat.{_*_, _-_, _<_};
 ghost use lib.ListN.{length};
 ghost use Rattle.laws.specs.Tests.{Passes};
 ghost use Rattle.laws.specs.Tables.{outcome};
@@ -12,11 +12,12 @@ ghost use Rattle.rules.specs.Open.{openZone, openStep};
 ghost use Rattle.rules.specs.Step.{follow};
 ghost use Rattle.entries.specs.Sizes.{hugeOf};
 ghost use Rattle.places.specs.Shapes.{shapeOf};
-ghost use Rattle.calls.specs.Results.{zone, result, done, ranTo, Fits};
+ghost use Rattle.calls.specs.Results.{zone, result, done, ranTo, checked, Fits, WentOn};
 ghost use Rattle.opening.specs.Opens.{openableIn, startIn, openAt};
 use calls::Checked;
 use calls::Ended;
 use calls::Next;
+use calls::Way;
 use entries::Added;
 use entries::Size;
 use entries::Stored;
@@ -214,21 +215,96 @@ pub fn open_step(
 
 // ---- runs
 
-// Up to `fuel` later steps of open in one call, counted. Out of steps it answers 1 with the record. A refused step stores nothing: the tables are
-// those after the last good step. For memory without cuts: a cut is admitted between calls only, and memory that survives one is driven by single steps.
-pub fn run(
+// The children from `first` on are recounted, up to `fuel` steps; then come the trees. The checks were made.
+fn recount_on(
+    header: &[u64],
+    words: &[u64],
+    children: &mut [u16],
+    trees: &[u16],
+    cpus: &[u64],
+    shape: Shape,
+    first: Huge,
+    fuel: u64,
+) -> Way
+    requires { ⌜ (checked (now header) (length (now words)) (length (now children)) (length (now trees)) (length (now cpus)) ≡ Checked.Zone shape) × (first .0 < hugeOf (shape .size)) ⌝ }
+    ensures { λ r. ⌜ WentOn openStep fuel 0 (Record.Open (Opening.Children first)) r (zone (now (header .entry)) (now (words .entry)) (now (children .exit)) (now (trees .entry)) (now (cpus .entry))) (zone (now (header .entry)) (now (words .entry)) (now (children .entry)) (now (trees .entry)) (now (cpus .entry))) ⌝ }
+{
+    let huge = entries::huge_frames(shape.size);
+    let mut at = first.0;
+    let mut steps: u64 = 0;
+    while steps < fuel {
+        match lower::store_recount(children, words, at as usize) {
+            Recounted::Stored => {}
+            Recounted::Damaged => {
+                return calls::way_of(Answer::Damaged, steps + 1);
+            }
+            Recounted::NoChild => {
+                return calls::way_of(Answer::BadRecord, steps + 1);
+            }
+            Recounted::NoField => {
+                return calls::way_of(Answer::BadRecord, steps + 1);
+            }
+        }
+        steps += 1;
+        at += 1;
+        if at == huge {
+            return Way::Goes {
+                rec: Record::Open(Opening::Trees(Tree(0))),
+                steps,
+            };
+        }
+    }
+    Way::Goes {
+        rec: Record::Open(Opening::Children(Huge(at))),
+        steps,
+    }
+}
+
+// A record at a child goes on with all that follow; every other is left to the steps.
+fn way(
+    header: &[u64],
+    words: &[u64],
+    children: &mut [u16],
+    trees: &[u16],
+    cpus: &[u64],
+    rec: Record,
+    fuel: u64,
+) -> Way
+    ensures { λ r. ⌜ WentOn openStep fuel 0 rec r (zone (now (header .entry)) (now (words .entry)) (now (children .exit)) (now (trees .entry)) (now (cpus .entry))) (zone (now (header .entry)) (now (words .entry)) (now (children .entry)) (now (trees .entry)) (now (cpus .entry))) ⌝ }
+{
+    if let Record::Open(stage) = rec {
+        if let Opening::Children(first) = stage {
+            if let Checked::Zone(shape) = calls::check(
+                header,
+                words.len(),
+                children.len(),
+                trees.len(),
+                cpus.len(),
+            ) {
+                if first.0 < entries::huge_frames(shape.size) {
+                    return recount_on(header, words, children, trees, cpus, shape, first, fuel);
+                }
+            }
+        }
+    }
+    Way::Goes { rec, steps: 0 }
+}
+
+// The steps that are left of `fuel` after the first `made`.
+fn step_on(
     header: &[u64],
     words: &[u64],
     children: &mut [u16],
     trees: &mut [u16],
     cpus: &mut [u64],
     rec: Record,
+    made: u64,
     fuel: u64,
 ) -> Ended
-    ensures { λ r. ⌜ ranTo r (zone (now (header .entry)) (now (words .entry)) (now (children .exit)) (now (trees .exit)) (now (cpus .exit))) ≡ follow openStep fuel 0 (Answer.UnderWay rec) (zone (now (header .entry)) (now (words .entry)) (now (children .entry)) (now (trees .entry)) (now (cpus .entry))) ⌝ }
+    ensures { λ r. ⌜ ranTo r (zone (now (header .entry)) (now (words .entry)) (now (children .exit)) (now (trees .exit)) (now (cpus .exit))) ≡ follow openStep (fuel - made) made (Answer.UnderWay rec) (zone (now (header .entry)) (now (words .entry)) (now (children .entry)) (now (trees .entry)) (now (cpus .entry))) ⌝ }
 {
     let mut at = rec;
-    let mut steps: u64 = 0;
+    let mut steps = made;
     while steps < fuel {
         let answer = open_step(header, words, children, trees, cpus, at);
         steps += 1;
@@ -244,5 +320,33 @@ pub fn run(
     Ended {
         answer: Answer::UnderWay(at),
         steps,
+    }
+}
+
+// Up to `fuel` later steps of open in one call, counted. Out of steps it answers 1 with the record. A refused step stores nothing: the tables are
+// those after the last good step. For memory without cuts: a cut is admitted between calls only, and memory that survives one is driven by single steps.
+pub fn run(
+    header: &[u64],
+    words: &[u64],
+    children: &mut [u16],
+    trees: &mut [u16],
+    cpus: &mut [u64],
+    rec: Record,
+    fuel: u64,
+) -> Ended
+    ensures { λ r. ⌜ ranTo r (zone (now (header .entry)) (now (words .entry)) (now (children .exit)) (now (trees .exit)) (now (cpus .exit))) ≡ follow openStep fuel 0 (Answer.UnderWay rec) (zone (now (header .entry)) (now (words .entry)) (now (children .entry)) (now (trees .entry)) (now (cpus .entry))) ⌝ }
+{
+    match way(header, words, children, trees, cpus, rec, fuel) {
+        Way::Ends(ended) => ended,
+        Way::Goes { rec: next, steps } => step_on(
+            header,
+            words,
+            children,
+            trees,
+            cpus,
+            next,
+            steps,
+            fuel,
+        ),
     }
 }

@@ -203,7 +203,7 @@ fn place_hand_in(shape: Shape, cpu: u8, place: Place, hand: u16) -> bool
 }
 
 // A search: its place, its start child and the child that it is at.
-fn search_in(shape: Shape, cpu: u8, place: Place, start: u8, child: u8) -> bool
+pub fn search_in(shape: Shape, cpu: u8, place: Place, start: u8, child: u8) -> bool
     ensures { λ r. ⌜ r ≡ passes (placeIn (shapeOf shape) cpu place ++ (childIn (shapeOf shape) (placeTree place) start ++ childIn (shapeOf shape) (placeTree place) child)) ⌝ }
 {
     if place_in(shape, cpu, place) {

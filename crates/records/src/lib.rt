@@ -1,9 +1,9 @@
-// A record as two words, one encoding a record; and an answer's number, frame and record. Numbers are bare here: this is where they leave the types.
+// A record as two words, one encoding a record; and an answer's number and frame. Numbers are bare here: this is where they leave the types.
 ghost use mathlib.Core.Path.{_≡_};
 ghost use mathlib.Core.List.{[], _∷_};
 ghost use Prim.Native.Nat.{_%_, _^_};
 ghost use Rattle.rules.specs.Begin.{orderNumber, orderOf};
-ghost use Rattle.rules.specs.Answers.{number, frameOf, recordOf};
+ghost use Rattle.rules.specs.Answers.{number, frameOf};
 ghost use Rattle.records.specs.Layout.{firstLayout, secondLayout, spotNowhere, treeSpot, fromSpot, passSpot, foundSpot, placeSpot, blockOrder, blockNumber};
 ghost use Rattle.records.specs.Encoding.{fieldsHeld, fieldsSearched, fieldsBlocked, fieldsNumbered, fieldsOf, BlockFits, Joins, Encodes, encode};
 ghost use Rattle.records.specs.Decoding.{headOf, tailOf, passAt, foundAt, placeAt, blockIn, takingAt, givingAt, creatingAt, openingAt, read, decode};
@@ -23,7 +23,7 @@ use rules::Run;
 use rules::Taking;
 use rules::Tree;
 
-// ---- an answer's number, frame and record
+// ---- an answer's number and frame
 
 pub fn number_of(answer: Answer) -> u64
     ensures { λ r. ⌜ r ≡ number answer ⌝ }
@@ -66,29 +66,6 @@ pub fn frame_of(answer: Answer) -> u64
         Answer::Damaged => 0,
         Answer::NotSettled => 0,
         Answer::BadSize => 0,
-    }
-}
-
-// All answers but 1 hand back the finished record.
-pub fn record_of(answer: Answer) -> Record
-    ensures { λ r. ⌜ r ≡ recordOf answer ⌝ }
-{
-    match answer {
-        Answer::UnderWay(rec) => rec,
-        Answer::Done(_) => Record::Finished,
-        Answer::NoRoom => Record::Finished,
-        Answer::BadOrder => Record::Finished,
-        Answer::BadFrame => Record::Finished,
-        Answer::Misaligned => Record::Finished,
-        Answer::NotTaken => Record::Finished,
-        Answer::BadCpu => Record::Finished,
-        Answer::BadBuffers => Record::Finished,
-        Answer::NotAZone => Record::Finished,
-        Answer::Closed => Record::Finished,
-        Answer::BadRecord => Record::Finished,
-        Answer::Damaged => Record::Finished,
-        Answer::NotSettled => Record::Finished,
-        Answer::BadSize => Record::Finished,
     }
 }
 
@@ -653,16 +630,132 @@ fn read(words: Words) -> Record
     Record::Open(opening_at(head, words.second))
 }
 
+// ---- the encoding of what is read, from the words
+
+fn again_taking(head: Head, second: u64) -> Words
+    ensures { λ r. ⌜ Encodes (fieldsOf (Record.Get (head .cpu) (takingAt head (tailOf second) second))) r ⌝ }
+{
+    let order = order_at(head.order);
+    let tail = split_second(second);
+    let tree = Tree(tail.tree);
+    let stage = head.stage;
+    let cpu = head.cpu;
+    match stage {
+        1 => held(1, cpu, order, nowhere(), 0),
+        2 => held(2, cpu, order, tree_spot(tree), 0),
+        3 => held(3, cpu, order, tree_spot(tree), tail.hand),
+        4 => held(4, cpu, order, tree_spot(tree), tail.hand),
+        5 => held(5, cpu, order, tree_spot(tree), 0),
+        6 => held(6, cpu, order, place_spot(place_at(head.kind, tail)), 0),
+        7 => held(
+            7,
+            cpu,
+            order,
+            place_spot(place_at(head.kind, tail)),
+            tail.hand,
+        ),
+        8 => held(8, cpu, order, pass_spot(pass_at(head.kind, tail)), 0),
+        9 => held(
+            9,
+            cpu,
+            order,
+            found_spot(found_at(head.kind, tail)),
+            tail.hand,
+        ),
+        10 => held(10, cpu, order, from_spot(tail.from), 0),
+        11 => held(
+            11,
+            cpu,
+            order,
+            found_spot(Found::Steal {
+                from: tail.from,
+                tree,
+            }),
+            tail.hand,
+        ),
+        12 => searched(
+            12,
+            cpu,
+            order,
+            place_at(head.kind, tail),
+            head.start,
+            head.child,
+            0,
+        ),
+        13 => searched(
+            13,
+            cpu,
+            Order::Run(rules::run_of(head.order as u64)),
+            place_at(head.kind, tail),
+            head.start,
+            head.child,
+            head.word,
+        ),
+        14 => searched(
+            14,
+            cpu,
+            Order::Run(rules::run_of(head.order as u64)),
+            place_at(head.kind, tail),
+            head.start,
+            head.child,
+            0,
+        ),
+        15 => blocked(15, cpu, block_at(head.order, second)),
+        16 => held(16, cpu, order, place_spot(place_at(head.kind, tail)), 0),
+        _ => held(17, cpu, Order::Run(Run::One), nowhere(), 0),
+    }
+}
+
+fn again_giving(head: Head, second: u64) -> Words
+    ensures { λ r. ⌜ Encodes (fieldsOf (Record.Put (head .cpu) (givingAt head second))) r ⌝ }
+{
+    let stage = head.stage;
+    let cpu = head.cpu;
+    match stage {
+        18 => blocked(18, cpu, block_at(head.order, second)),
+        19 => blocked(
+            19,
+            cpu,
+            Block::Run {
+                run: rules::run_of(head.order as u64),
+                first: Frame(second),
+            },
+        ),
+        20 => blocked(20, cpu, block_at(head.order, second)),
+        _ => blocked(21, cpu, block_at(head.order, second)),
+    }
+}
+
+fn again(words: Words) -> Words
+    ensures { λ r. ⌜ r ≡ encode (read words) ⌝ }
+{
+    let head = split_first(words.first);
+    let stage = head.stage;
+    if stage == 0 {
+        return held(0, 0, Order::Run(Run::One), nowhere(), 0);
+    }
+    if stage < 18 {
+        return again_taking(head, words.second);
+    }
+    if stage < 22 {
+        return again_giving(head, words.second);
+    }
+    if stage < 27 {
+        return encode_creating(creating_at(head, words.second));
+    }
+    encode_opening(opening_at(head, words.second))
+}
+
 // The record that two words are the encoding of. Words that are no record's are read as the finished one, which every step refuses with 11.
 pub fn decode(words: Words) -> Record
     ensures { λ r. ⌜ r ≡ decode words ⌝ }
 {
     let rec = read(words);
-    let again = encode(rec);
-    if again.first != words.first {
+    let made = again(words);
+    if made.first != words.first {
         return Record::Finished;
     }
-    if again.second != words.second {
+    if made.second != words.second {
         return Record::Finished;
     }
     rec

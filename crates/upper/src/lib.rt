@@ -1,4 +1,4 @@
-// Steps and runs of gets and puts. Every check is made here, in document 01's order; a refused step stores nothing.
+// Steps of gets and puts. Every check is made here, in document 01's order; a refused step stores nothing.
 ghost use mathlib.Core.Path.{_≡_};
 ghost use mathlib.Core.List.{[], _++_};
 ghost use Rattle.laws.specs.Tests.{Passes};
@@ -6,12 +6,10 @@ ghost use Rattle.rules.specs.Plan.{carried};
 ghost use Rattle.rules.specs.Ranges.{cpuIn, takingIn, givingIn};
 ghost use Rattle.rules.specs.Take.{take};
 ghost use Rattle.rules.specs.Give.{give};
-ghost use Rattle.rules.specs.Step.{step, runs};
+ghost use Rattle.rules.specs.Step.{step};
 ghost use Rattle.places.specs.Shapes.{shapeOf};
-ghost use Rattle.calls.specs.Results.{zone, result, done, ranTo, Fits};
+ghost use Rattle.calls.specs.Results.{zone, result, done, Fits};
 use calls::Checked;
-use calls::Ended;
-use calls::Next;
 use places::Shape;
 use rules::Answer;
 use rules::Block;
@@ -182,40 +180,5 @@ pub fn step(
             Record::Create(_) => Answer::BadRecord,
             Record::Open(_) => Answer::BadRecord,
         },
-    }
-}
-
-// ---- runs
-
-// Up to `fuel` steps of a get or put in one call, counted. Out of steps it answers 1 with the record. A refused step stores nothing: the tables are
-// those after the last good step. For memory without cuts: a cut is admitted between calls only, and memory that survives one is driven by single steps.
-pub fn run(
-    header: &[u64],
-    words: &mut [u64],
-    children: &mut [u16],
-    trees: &mut [u16],
-    cpus: &mut [u64],
-    rec: Record,
-    fuel: u64,
-) -> Ended
-    ensures { λ r. ⌜ ranTo r (zone (now (header .entry)) (now (words .exit)) (now (children .exit)) (now (trees .exit)) (now (cpus .exit))) ≡ runs fuel (zone (now (header .entry)) (now (words .entry)) (now (children .entry)) (now (trees .entry)) (now (cpus .entry))) rec ⌝ }
-{
-    let mut at = rec;
-    let mut steps: u64 = 0;
-    while steps < fuel {
-        let answer = step(header, words, children, trees, cpus, at);
-        steps += 1;
-        match calls::next_of(answer) {
-            Next::Ends => {
-                return Ended { answer, steps };
-            }
-            Next::GoesOn(next) => {
-                at = next;
-            }
-        }
-    }
-    Ended {
-        answer: Answer::UnderWay(at),
-        steps,
     }
 }

@@ -35,7 +35,7 @@ const TREE_CHILDREN: usize = 32;
 
 // ---- a tree's part, lent
 
-fn take_run(words: &mut [u64], shape: Shape, tree: Tree, child: u8, word: u8, run: Run) -> Taken
+pub fn take_run(words: &mut [u64], shape: Shape, tree: Tree, child: u8, word: u8, run: Run) -> Taken
     ensures { λ r. ⌜ outcome r (now (words .exit)) ≡ lentWords (shapeOf shape) tree Taken.NoChild (λ l. takeRunIn (runSize run) l child word) (now (words .entry)) ⌝ }
 {
     let first = CHILD_WORDS * (tree.0 as usize * TREE_CHILDREN);
@@ -46,7 +46,7 @@ fn take_run(words: &mut [u64], shape: Shape, tree: Tree, child: u8, word: u8, ru
     lower::take_run(&mut words[first..end], child as usize, word as usize, run)
 }
 
-fn clear_run(
+pub fn clear_run(
     words: &mut [u64],
     shape: Shape,
     tree: Tree,
@@ -67,7 +67,7 @@ fn clear_run(
 
 // ---- answers
 
-fn frame_at(shape: Shape, tree: Tree, child: u8, word: u8, bit: u8) -> Frame
+pub fn frame_at(shape: Shape, tree: Tree, child: u8, word: u8, bit: u8) -> Frame
     ensures { λ r. ⌜ r ≡ frameAt (shapeOf shape) tree child word bit ⌝ }
 {
     let huge = tree.0 as u64 * 32 + child as u64;

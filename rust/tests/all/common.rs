@@ -61,7 +61,7 @@ const fn of_create(call: Call) -> Call {
 }
 
 /// Every call over tables.
-pub const CALLS: [Call; 12] = [
+pub const CALLS: [Call; 14] = [
     of_create(call("create", |t, r| t.create(r, 33))),
     of_create(call("create_step", |t, r| t.create_step(r, 33))),
     of_create(call("create_run", |t, r| ran(t.create_run(r, 33, 9)))),
@@ -83,6 +83,8 @@ pub const CALLS: [Call; 12] = [
     call("put", |t, r| t.put(r, 1, 512, 9)),
     call("step", |t, r| t.step(r)),
     call("run", |t, r| ran(t.run(r, 9))),
+    call("get_run", |t, r| ran(t.get_run(r, 1, 0, 9))),
+    call("put_run", |t, r| ran(t.put_run(r, 1, 512, 9, 9))),
 ];
 
 fn ran(ran: lovarntek::calls::Ran) -> Answered {

@@ -21,6 +21,13 @@ fn largest_numbers() {
     assert_eq!(tables.create(record, MOST).number, 14);
     assert_eq!(record, &[0, 0]);
     *record = [MOST; 2];
+    assert_eq!(tables.get_run(record, MOST, MOST, MOST).number, 7);
+    assert_eq!(tables.get_run(record, 1, MOST, MOST).number, 3);
+    assert_eq!(tables.put_run(record, MOST, MOST, MOST, MOST).number, 7);
+    assert_eq!(tables.put_run(record, 1, MOST, MOST, MOST).number, 3);
+    assert_eq!(tables.put_run(record, 1, MOST, 9, MOST).number, 4);
+    assert_eq!(record, &[0, 0]);
+    *record = [MOST; 2];
     assert_eq!(tables.create_step(record, MOST).number, 14);
     *record = [MOST; 2];
     assert_eq!(tables.create_run(record, MOST, MOST).number, 14);

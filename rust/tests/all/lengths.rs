@@ -116,6 +116,8 @@ fn a_record_of_another_length() {
         assert_eq!(zone.tables().create_step(&mut record, 65_537).number, 14);
         assert_eq!(zone.tables().create_run(&mut record, 0, 9).steps, 0);
         assert_eq!(zone.tables().run(&mut record, 9).steps, 0);
+        assert_eq!(zone.tables().get_run(&mut record, 0, 0, 9).steps, 0);
+        assert_eq!(zone.tables().put_run(&mut record, 0, 0, 0, 9).steps, 0);
         assert_eq!(record, vec![7; length]);
     }
 }

@@ -5,6 +5,7 @@ mod common;
 mod cuts;
 mod extremes;
 mod lengths;
+mod one_call;
 mod records;
 mod runs;
 mod sessions;

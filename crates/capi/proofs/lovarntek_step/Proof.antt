@@ -1,12 +1,35 @@
 use Rattle.rules.specs.Step.{step}
-use Rattle.capi.proofs.Calls.{one-step}
+use Rattle.capi.proofs.Calls.{made-not, made-so, lent-step}
 use borrow.Author.Needs.{needs}
 use Rattle.capi.proofs.lovarntek_step.Statement.{statement}
 use Rattle.capi.proofs.lovarntek_step.Tie as tie
-use Rattle.capi.proofs.go_on.Reads as go-on-reads
 
-go-on-requires : tie.Need-go-on-requires
-go-on-requires c κs = search needs
+no-record-requires : tie.Need-no-record-requires
+no-record-requires c κs = search needs
+
+told-requires : tie.Need-told-requires
+told-requires c κs = search needs
+
+returns : tie.Need-returns
+returns c = made-not _ _ _ _ (c .before .before .if1 .taken) (c .before .no-record .ensures) (c .told .ensures)
+
+slice-read-t14 : tie.Need-slice-read-t14
+slice-read-t14 c = search needs
+
+slice-read-t16 : tie.Need-slice-read-t16
+slice-read-t16 c = search needs
+
+decode-requires : tie.Need-decode-requires
+decode-requires c κs = search needs
+
+step-requires : tie.Need-step-requires
+step-requires c κs = search needs
+
+hand-back-requires : tie.Need-hand-back-requires
+hand-back-requires c κs = search needs
+
+told-requires-2 : tie.Need-told-requires-2
+told-requires-2 c κs = search needs
 
 same-length : tie.Need-same-length
 same-length c = search needs
@@ -23,17 +46,25 @@ same-length-4 c = search needs
 same-length-5 : tie.Need-same-length-5
 same-length-5 c = search needs
 
-returns : tie.Need-returns
-returns c = one-step _ _ _ step _ (c .before .before .before .before .before .before .before .before .before .before .go-on .ensures)
+returns-2 : tie.Need-returns-2
+returns-2 c = made-so _ _ _ _ (c .before .before .before .before .before .before .before .before .before .before .before .before .before .before .before .before .before .before .before .before .before .if1 .left) (lent-step step _ (c .before .before .before .before .before .before .before .before .before .before .before .before .before .before .before .before .before .before .decode .ensures) (c .before .before .before .before .before .before .before .before .before .before .before .before .before .step .ensures)) (c .before .before .before .hand-back .ensures) (c .told2 .ensures)
 
 pub lovarntek-step-spec : {M : Type 1} → statement M
 lovarntek-step-spec =
     tie.close
     (tie.spec
-    go-on-requires
+    no-record-requires
+    told-requires
+    returns
+    slice-read-t14
+    slice-read-t16
+    decode-requires
+    step-requires
+    hand-back-requires
+    told-requires-2
     same-length
     same-length-2
     same-length-3
     same-length-4
     same-length-5
-    returns)
+    returns-2)

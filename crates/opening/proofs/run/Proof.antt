@@ -1,88 +1,56 @@
-use mathlib.Core.Path.{_≡_, refl, sym, _∙_}
-use Prim.Native.Nat.{_-_, _≤_}
-use native.Mathlib.Nat.{sub-zero}
-use lib.ListN.{length}
 use borrow.Author.Needs.{needs}
-use Rattle.rules.specs.Open.{openStep}
-use Rattle.rules.specs.Step.{follow}
-use Rattle.calls.specs.Results.{zone}
-use Rattle.calls.proofs.Runs.{run-out, run-goes, run-ends}
-use Rattle.opening.specs.Types.{Answer}
+use Rattle.opening.proofs.Recounts.{run-ended, run-went-on}
 use Rattle.opening.proofs.run.Statement.{statement}
 use Rattle.opening.proofs.run.Tie as tie
 
-abbrev Inv-loop : tie.InvT-loop
-Inv-loop header words children₀ trees₀ cpus₀ fuel at₀ steps₀ children trees cpus at steps = (length children ≡ length children₀) × (length trees ≡ length trees₀) × (length cpus ≡ length cpus₀) × (steps ≤ fuel) × (follow openStep (fuel - steps) steps (Answer.UnderWay at) (zone header words children trees cpus) ≡ follow openStep fuel 0 (Answer.UnderWay at₀) (zone header words children₀ trees₀ cpus₀))
+way-requires : tie.Need-way-requires
+way-requires c κs = search needs
 
-abbrev μ-loop : tie.MeasureT-loop
-μ-loop header words children₀ trees₀ cpus₀ fuel at₀ steps₀ children trees cpus at steps = fuel - steps
+enum-known-ended : tie.Need-enum-known-ended
+enum-known-ended c = search needs
 
-loop-holds : tie.Need-loop-holds Inv-loop μ-loop
-loop-holds c = (refl, refl, refl, search needs, rw sub-zero refl)
-
-open-step-requires : tie.Need-open-step-requires Inv-loop μ-loop
-open-step-requires c κs = search needs
-
-add-steps : tie.Need-add-steps Inv-loop μ-loop
-add-steps c = search needs
-
-next-of-requires : tie.Need-next-of-requires Inv-loop μ-loop
-next-of-requires c κs = search needs
-
-enum-told : tie.Need-enum-told Inv-loop μ-loop
-enum-told c = search needs
-
-same-length : tie.Need-same-length Inv-loop μ-loop
-same-length c = search needs
-
-same-length-2 : tie.Need-same-length-2 Inv-loop μ-loop
-same-length-2 c = search needs
-
-same-length-3 : tie.Need-same-length-3 Inv-loop μ-loop
-same-length-3 c = search needs
-
-returns : tie.Need-returns Inv-loop μ-loop
-returns c = run-ends openStep _ _ _ _ (search needs) (c .before .before .before .before .before .before .before .before .before .open-step .ensures) (c .before .before .next-of .ensures) (c .enum-told .given .1) ∙ c .before .before .before .before .before .before .before .before .before .before .before .before .before .before .loop .inv .4
-
-enum-known-next : tie.Need-enum-known-next Inv-loop μ-loop
+enum-known-next : tie.Need-enum-known-next
 enum-known-next c = search needs
 
-loop-less : tie.Need-loop-less Inv-loop μ-loop
-loop-less c = search needs
+step-on-requires : tie.Need-step-on-requires
+step-on-requires c κs = search needs
 
-loop-again : tie.Need-loop-again Inv-loop μ-loop
-loop-again c = (search needs, search needs, search needs, search needs, sym (run-goes openStep _ _ _ _ (search needs) (c .before .before .before .before .before .before .before .before .before .before .open-step .ensures) (c .before .before .before .next-of .ensures) (c .before .next .given .1)) ∙ c .before .before .before .before .before .before .before .before .before .before .before .before .before .before .before .loop .inv .4)
+same-length : tie.Need-same-length
+same-length c = search needs
 
-same-length-4 : tie.Need-same-length-4 Inv-loop μ-loop
+same-length-2 : tie.Need-same-length-2
+same-length-2 c = search needs
+
+same-length-3 : tie.Need-same-length-3
+same-length-3 c = search needs
+
+returns : tie.Need-returns
+returns c = run-ended _ _ _ _ _ (c .before .before .before .before .before .way .ensures) (c .before .ended .given .1)
+
+same-length-4 : tie.Need-same-length-4
 same-length-4 c = search needs
 
-same-length-5 : tie.Need-same-length-5 Inv-loop μ-loop
+same-length-5 : tie.Need-same-length-5
 same-length-5 c = search needs
 
-same-length-6 : tie.Need-same-length-6 Inv-loop μ-loop
+same-length-6 : tie.Need-same-length-6
 same-length-6 c = search needs
 
-returns-2 : tie.Need-returns-2 Inv-loop μ-loop
-returns-2 c = run-out openStep _ _ _ _ (c .loop-test .left) ∙ c .before .loop .inv .4
+returns-2 : tie.Need-returns-2
+returns-2 c = run-went-on _ _ _ _ _ (c .before .before .before .before .before .before .before .before .before .before .before .before .before .before .before .way .ensures) (c .before .before .before .before .before .before .before .before .before .before .before .next .given .1) (c .before .before .before .before .before .before .step-on .ensures)
 
 pub run-spec : {M : Type 1} → statement M
 run-spec =
     tie.close
     (tie.spec
-    Inv-loop
-    μ-loop
-    loop-holds
-    open-step-requires
-    add-steps
-    next-of-requires
-    enum-told
+    way-requires
+    enum-known-ended
+    enum-known-next
+    step-on-requires
     same-length
     same-length-2
     same-length-3
     returns
-    enum-known-next
-    loop-less
-    loop-again
     same-length-4
     same-length-5
     same-length-6

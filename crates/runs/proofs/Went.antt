@@ -1,0 +1,41 @@
+-- A run from a record that is known, and what its way makes of it.
+use mathlib.Core.Path.{_≡_, refl, _∙_}
+use Prim.Native.Nat.{ℕ, _-_}
+use native.Mathlib.Nat.{sub-zero}
+use Rattle.rules.specs.declared.Answer.{Answer}
+use Rattle.rules.specs.declared.Taking.{Taking}
+use Rattle.rules.specs.declared.Giving.{Giving}
+use Rattle.rules.specs.declared.Record.{Record}
+use Rattle.rules.specs.Zone.{Zone}
+use Rattle.rules.specs.Step.{Ran, step, follow, runs}
+use Rattle.calls.specs.declared.Ended.{Ended}
+use Rattle.calls.specs.declared.Way.{Way}
+use Rattle.calls.specs.Results.{ranTo, wentTo, WentOn}
+
+-- a get's or put's record, its stage known
+pub at-taking : {r : Record} {cpu : ℕ} {s x : Taking} → r ≡ Record.Get cpu s → s ≡ x → r ≡ Record.Get cpu x
+at-taking e q = rw q at e
+
+pub at-giving : {r : Record} {cpu : ℕ} {s x : Giving} → r ≡ Record.Put cpu s → s ≡ x → r ≡ Record.Put cpu x
+at-giving e q = rw q at e
+
+-- a record that is known: it went on so, or it is left as it stands
+module _ (fuel : ℕ) (z : Zone) {r x : Record} (e : r ≡ x) where
+  pub went-as : (y : Way) (z′ : Zone) → WentOn step fuel 0 x y z′ z → WentOn step fuel 0 r y z′ z
+  went-as y z′ w = rw e w
+
+  pub left-as : WentOn step fuel 0 r (Way.Goes x 0) z z
+  unfolding wentTo
+  left-as = rw e refl
+
+module _ (fuel : ℕ) (y : Way) (z′ z : Zone) (r : Record) (w : WentOn step fuel 0 r y z′ z) where
+  begun : wentTo step fuel y z′ ≡ runs fuel z r
+  begun = rw sub-zero at w
+
+  pub went-ended : {e : Ended} → y ≡ Way.Ends e → ranTo e z′ ≡ runs fuel z r
+  unfolding wentTo
+  went-ended q = rw q at begun
+
+  pub went-on : {x : Record} {k : ℕ} {o : Ran} → y ≡ Way.Goes x k → o ≡ follow step (fuel - k) k (Answer.UnderWay x) z′ → o ≡ runs fuel z r
+  unfolding wentTo
+  went-on q s = s ∙ (rw q at begun)
