@@ -18,8 +18,9 @@ use Rattle.rules.specs.Conversions as Conversions
 use Rattle.rules.specs.declared.Block.{Block}
 use Rattle.rules.specs.declared.Taking.{Taking}
 use Rattle.entries.specs.Sizes.{hugeOf}
-use Rattle.begins.specs.Types.{Frame, Run, Order, Giving, Record, Answer, Shape, Checked, OrderAt}
+use Rattle.begins.specs.Types.{Frame, Run, Order, Giving, Record, Answer, Shape, Checked, OrderAt, Putting}
 use Rattle.calls.specs.Results.{zone, result, done}
+use Rattle.begins.specs.Begun.{PutsBy, PutsAtBy, Puts, PutsAt}
 use Rattle.begins.specs.Orders.{orderAtIn, putOf}
 use Rattle.calls.proofs.Opened.{stores-nothing, stands, passed-by, checkedIn, checked-refused, checked-open}
 
@@ -119,6 +120,14 @@ module _ (h w c t p : List ℕ) (cpu o : ℕ) where
       unfolding beginPut guarded putOf
       put-begun b n m l r = stores-nothing z
           (good-order b n (badFrame z f ∷ misaligned o f ∷ []) (put f) ∙ passed-by (badFrame z f) (misaligned o f ∷ []) (put f) (lt-leb _ _ (rw (m, ← huge-same) at l)) ∙ refused-unless (eqb (f .0 % size (orderOf o)) 0) _ _ ∙ ap (λ k. refuse (putOf cpu f k)) (an-order o n .1) ∙ ap refuse (sym r))
+
+      -- what its order makes of it is what the beginning comes to
+      put-by : cpu < s .cpus → {k : Order} → orderAtIn o ≡ OrderAt.At k → {n : ℕ} → n ≡ hugeOf (s .size) → f .0 < n * childFrames → (x : Putting) → PutsAtBy s cpu f k x → PutsBy z cpu f o x
+      put-by b n m l (Putting.Refused a) q = put-begun b n m l q
+      put-by b n m l (Putting.Of g j d) q = (record { checks = e ∙ ap Checked.Zone (sym (q .0)); cpu-in = rw (q .0, q .1) b }, put-begun b n m l (q .2))
+
+      pub put-at : cpu < s .cpus → {k : Order} → orderAtIn o ≡ OrderAt.At k → {n : ℕ} → n ≡ hugeOf (s .size) → f .0 < n * childFrames → {x : Putting} → PutsAt s cpu f k x → Puts z cpu f o x
+      put-at b n m l {x} q = record { come = put-by b n m l x (q .come) }
 
 -- ---- the put of a frame of the zone, by its order
 module _ (cpu : ℕ) (f : Frame) (o : Order) {s : ℕ} (e : s ≡ size o) where

@@ -27,10 +27,10 @@ use Rattle.entries.specs.declared.Zoned.{Zoned}
 use Rattle.calls.specs.declared.Next.{Next}
 use Rattle.calls.specs.Results.{zone, Result, result, done, nextIn}
 use Rattle.calls.proofs.Opened.{zonedBy}
-use Rattle.calls.proofs.Runs.{NextTells, next-tells, follow-ended}
+use Rattle.calls.proofs.Runs.{NextTells, next-tells}
 use Rattle.records.specs.Encoding.{fieldsOf, encode}
 use Rattle.capi.specs.Types.{Record, Answer, Words, Answered, Ran}
-use Rattle.capi.specs.Calls.{answeredAs, ranAs, laidDown, handedBack, noRecord, noCreateRecord, Called, called, made, followed, madeAlone, lengthFor}
+use Rattle.capi.specs.Calls.{answeredAs, ranAs, laidDown, laid, handedBack, noRecord, noCreateRecord, Called, called, made, followed, madeAlone, lengthFor}
 
 -- ---- the record slice
 
@@ -44,22 +44,30 @@ finished-words : encode Record.Finished ≡ record { first = 0; second = 0 }
 unfolding encode fieldsOf join width
 finished-words = refl
 
-module _ (a : Answer) (l : List ℕ) (e : length l ≡ 2) where
-  laid : (r : Record) → recordOf a ≡ r → {w : Words} → w ≡ encode r → set (set l 0 (w .first)) 1 (w .second) ≡ handedBack a l
-  unfolding handedBack
-  laid r p q = two l _ _ e ∙ ap laidDown (q ∙ ap encode (sym p)) ∙ sym (pick-yes _ _ _ (eq-eqb _ _ e))
+module _ (l : List ℕ) where
+  -- a record's two words; the finished one's are zero
+  pub laid-down : (r : Record) {w : Words} → length l ≡ 2 → w ≡ encode r → set (set l 0 (w .first)) 1 (w .second) ≡ laid r l
+  unfolding laid
+  laid-down r e q = two l _ _ e ∙ ap laidDown q ∙ sym (pick-yes _ _ _ (eq-eqb _ _ e))
 
-  -- the next record, or the finished one, two zero words
-  module _ {m : Next} (n : m ≡ nextIn a) where
-    pub laid-next : {r : Record} {w : Words} → m ≡ Next.GoesOn r → w ≡ encode r → set (set l 0 (w .first)) 1 (w .second) ≡ handedBack a l
-    laid-next {r} k q = laid r (ap recordOf (subst (NextTells a) (sym n ∙ k) (next-tells a))) q
+  pub laid-finished : length l ≡ 2 → set (set l 0 0) 1 0 ≡ laid Record.Finished l
+  laid-finished e = laid-down Record.Finished e (sym finished-words)
 
-    pub laid-last : m ≡ Next.Ends → set (set l 0 0) 1 0 ≡ handedBack a l
-    laid-last k = laid Record.Finished (ap (λ x. byNext x Record.Finished (λ r. r)) (subst (NextTells a) (sym n ∙ k) (next-tells a))) (sym finished-words)
+  pub left-alone : (r : Record) → length l ≢ 2 → l ≡ laid r l
+  unfolding laid
+  left-alone r e = sym (pick-no _ _ _ (ne-eqb _ _ e))
 
-pub left-alone : (a : Answer) (l : List ℕ) → length l ≢ 2 → l ≡ handedBack a l
-unfolding handedBack
-left-alone a l e = sym (pick-no _ _ _ (ne-eqb _ _ e))
+  pub laid-length : (r : Record) → length (laid r l) ≡ length l
+  unfolding laid
+  laid-length r = pick-elim (λ (x : List ℕ). length x ≡ length l) (eqb (length l) 2) (λ b. sym (eqb-true _ _ b)) (λ b. refl)
+
+-- the record that an answer hands back: the next one, or the finished one
+module _ (a : Answer) (l : List ℕ) {m : Next} (n : m ≡ nextIn a) {l′ : List ℕ} where
+  pub back-next : {r : Record} → m ≡ Next.GoesOn r → l′ ≡ laid r l → l′ ≡ handedBack a l
+  back-next k q = q ∙ ap (λ r. laid r l) (sym (ap recordOf (subst (NextTells a) (sym n ∙ k) (next-tells a))))
+
+  pub back-last : m ≡ Next.Ends → l′ ≡ laid Record.Finished l → l′ ≡ handedBack a l
+  back-last k q = q ∙ ap (λ x. laid (byNext x Record.Finished (λ r. r)) l) (sym (subst (NextTells a) (sym n ∙ k) (next-tells a)))
 
 -- ---- one call, and a run
 
@@ -83,11 +91,16 @@ module _ (e : Answer) (z : Zone) (l : List ℕ) where
 
   pub followed-not : (x : rules.Ran) {a : Answer} {l′ : List ℕ} {s : Ran} → length l ≢ 2 → a ≡ e → outcome s l′ ≡ outcome (ranAs a 0) (handedBack a l) → called s z l′ ≡ followed e z l x
   unfolding followed
-  followed-not x {a} n q t = ap (λ (o : Outcome Ran). called (o .said) z (o .table)) t ∙ ap₂ (λ v k. called v z k) (ap (λ b. ranAs b 0) q) (sym (left-alone a l n)) ∙ sym (pick-no _ _ _ (ne-eqb _ _ n))
+  followed-not x {a} n q t = ap (λ (o : Outcome Ran). called (o .said) z (o .table)) t ∙ ap₂ (λ v k. called v z k) (ap (λ b. ranAs b 0) q) (sym (left-alone l (recordOf a) n)) ∙ sym (pick-no _ _ _ (ne-eqb _ _ n))
 
   pub followed-so : (x : rules.Ran) {a : Answer} {k : ℕ} {z′ : Zone} {l′ : List ℕ} {s : Ran} → length l ≡ 2 → rules.ran a k z′ ≡ x → outcome s l′ ≡ outcome (ranAs a k) (handedBack a l) → called s z′ l′ ≡ followed e z l x
   unfolding followed
   followed-so x {a} {k} {z′} n q t = ap (λ (o : Outcome Ran). called (o .said) z′ (o .table)) t ∙ ap (λ (o : rules.Ran). called (ranAs (o .answer) (o .steps)) (o .zone) (handedBack (o .answer) l)) q ∙ sym (pick-yes _ _ _ (eq-eqb _ _ n))
+
+  -- a run that is told from the tables on that a part of it left
+  pub followed-on : (x : rules.Ran) (z′ : Zone) {w : rules.Ran} {o : Called Ran} → length l ≡ 2 → w ≡ x → o ≡ followed e z′ l w → o ≡ followed e z l x
+  unfolding followed
+  followed-on x z′ n q t = t ∙ pick-yes _ _ _ (eq-eqb _ _ n) ∙ ap (λ (o : rules.Ran). called (ranAs (o .answer) (o .steps)) (o .zone) (handedBack (o .answer) l)) q ∙ sym (pick-yes _ _ _ (eq-eqb _ _ n))
 
   -- a run of one step is that step
   pub one-step : (f : Zone → Record → Plan) (r : Record) {s : Ran} {z′ : Zone} {l′ : List ℕ} → called s z′ l′ ≡ followed e z l (rules.follow f 1 0 (Answer.UnderWay r) z) → called (record { number = s .number; frame = s .frame }) z′ l′ ≡ made e z l (f z r)
@@ -97,18 +110,6 @@ module _ (e : Answer) (z : Zone) (l : List ℕ) where
 -- the run of the record that is lent
 pub lent : (f : Zone → Record → Plan) (n : ℕ) (z : Zone) {r s : Record} → r ≡ s → rules.follow f n 0 (Answer.UnderWay r) z ≡ rules.follow f n 0 (Answer.UnderWay s) z
 lent f n z e = ap (λ r. rules.follow f n 0 (Answer.UnderWay r) z) e
-
--- what follows an answer: nothing where it ends the operation, else the run of its record; and the answer of a beginning
-module _ (f : Zone → Record → Plan) (n : ℕ) (z : Zone) (a : Answer) where
-  module _ {m : Next} (k : m ≡ nextIn a) where
-    pub ended-at-once : m ≡ Next.Ends → rules.ran a 0 z ≡ rules.follow f n 0 a z
-    ended-at-once e = sym (follow-ended f n 0 a z (subst (NextTells a) (sym k ∙ e) (next-tells a)))
-
-    pub goes-on : {r : Record} {o : rules.Ran} → m ≡ Next.GoesOn r → o ≡ rules.follow f n 0 (Answer.UnderWay r) z → o ≡ rules.follow f n 0 a z
-    goes-on e q = q ∙ ap (λ x. rules.follow f n 0 x z) (sym (subst (NextTells a) (sym k ∙ e) (next-tells a)))
-
-  pub begun-by : (e : Answer) (l : List ℕ) (p : Plan) {o : Called Ran} → result a z ≡ done z p → o ≡ followed e z l (rules.follow f n 0 a z) → o ≡ followed e z l (rules.follow f n 0 (p .answer) z)
-  begun-by e l p b q = q ∙ ap (λ (x : Result). followed e z l (rules.follow f n 0 (x .answer) z)) b
 
 -- the step of the record that is lent
 pub lent-step : (f : Zone → Record → Plan) (z : Zone) {a : Answer} {z′ : Zone} {r s : Record} → r ≡ s → result a z′ ≡ done z (f z r) → result a z′ ≡ done z (f z s)

@@ -43,9 +43,13 @@ lentIn l = decode (wordsIn l)
 abbrev pub laidDown : Words → List ℕ
 laidDown w = w .first ∷ w .second ∷ []
 
--- the slice as a call leaves it: the next record after 1, else the finished one; a slice of another length as it is
-unfoldable pub handedBack : Answer → List ℕ → List ℕ
-handedBack a l = pick (isRecord l) (laidDown (encode (recordOf a))) l
+-- the slice with a record laid down; a slice of another length as it is
+unfoldable pub laid : Record → List ℕ → List ℕ
+laid r l = pick (isRecord l) (laidDown (encode r)) l
+
+-- the slice as a call leaves it: the next record after 1, else the finished one
+abbrev pub handedBack : Answer → List ℕ → List ℕ
+handedBack a l = laid (recordOf a) l
 
 -- ---- a record slice of another length: what comes before 8, or 8
 

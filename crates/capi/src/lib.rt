@@ -4,7 +4,7 @@
 ghost use mathlib.Core.Path.{_≡_};
 ghost use mathlib.Core.Bool.{not};
 ghost use mathlib.Core.List.{[]};
-ghost use Prim.Native.Nat.{_*_};
+ghost use Prim.Native.Nat.{_-_, _*_};
 ghost use lib.ListN.{length};
 ghost use Rattle.laws.specs.Tests.{passes};
 ghost use Rattle.laws.specs.Tables.{outcome};
@@ -15,11 +15,13 @@ ghost use Rattle.rules.specs.Step.{step, runs, follow};
 ghost use Rattle.rules.specs.Create.{sizeChecks, createZone, createStep};
 ghost use Rattle.rules.specs.Open.{openZone, openStep, closeZone};
 ghost use Rattle.calls.specs.Results.{zone};
-ghost use Rattle.capi.specs.Calls.{recordWords, answeredAs, ranAs, lentIn, handedBack, noRecord, noCreateRecord, called, made, followed, madeAlone, lengthFor, treesFor};
+ghost use Rattle.capi.specs.Calls.{recordWords, answeredAs, ranAs, lentIn, laid, handedBack, noRecord, noCreateRecord, called, made, followed, madeAlone, lengthFor, treesFor};
 use calls::Next;
+use calls::Way;
 use entries::Zoned;
 use rules::Answer;
 use rules::Frame;
+use rules::Record;
 
 const RECORD: usize = 2;
 
@@ -94,34 +96,70 @@ fn told(answer: Answer) -> Answered
     }
 }
 
+// The next record, laid down.
+fn lay(rec: &mut [u64], next: Record)
+    ensures { λ r. ⌜ now (rec .exit) ≡ laid next (now (rec .entry)) ⌝ }
+{
+    if rec.len() == RECORD {
+        let words = records::encode(next);
+        rec[0] = words.first;
+        rec[1] = words.second;
+    }
+}
+
+// The finished record, laid down: two zero words.
+fn lay_finished(rec: &mut [u64])
+    ensures { λ r. ⌜ now (rec .exit) ≡ laid Record.Finished (now (rec .entry)) ⌝ }
+{
+    if rec.len() == RECORD {
+        rec[0] = 0;
+        rec[1] = 0;
+    }
+}
+
 // The record that an answer hands back.
 fn hand_back(rec: &mut [u64], answer: Answer)
     ensures { λ r. ⌜ now (rec .exit) ≡ handedBack answer (now (rec .entry)) ⌝ }
 {
-    if rec.len() == RECORD {
-        match calls::next_of(answer) {
-            Next::GoesOn(next) => {
-                let words = records::encode(next);
-                rec[0] = words.first;
-                rec[1] = words.second;
-            }
-            Next::Ends => {
-                rec[0] = 0;
-                rec[1] = 0;
-            }
-        }
+    match calls::next_of(answer) {
+        Next::GoesOn(next) => lay(rec, next),
+        Next::Ends => lay_finished(rec),
     }
 }
 
+// The end of a run. The record is handed back as above; the match stands here again, so that an answer that ends the run is copied nowhere.
 fn told_run(rec: &mut [u64], answer: Answer, steps: u64) -> Ran
     ensures { λ r. ⌜ outcome r (now (rec .exit)) ≡ outcome (ranAs answer steps) (handedBack answer (now (rec .entry))) ⌝ }
 {
-    hand_back(rec, answer);
+    match calls::next_of(answer) {
+        Next::GoesOn(next) => lay(rec, next),
+        Next::Ends => lay_finished(rec),
+    }
     Ran {
         number: records::number_of(answer),
         frame: records::frame_of(answer),
         steps,
     }
+}
+
+// The steps that are left of a run after `made` of `fuel`, and its end.
+fn told_steps(
+    header: &[u64],
+    words: &mut [u64],
+    children: &mut [u16],
+    trees: &mut [u16],
+    cpus: &mut [u64],
+    rec: &mut [u64],
+    next: Record,
+    made: u64,
+    fuel: u64,
+) -> Ran
+    requires { ⌜ length (now rec) ≡ recordWords ⌝ }
+    ensures { λ r. ⌜ called r (zone (now (header .entry)) (now (words .exit)) (now (children .exit)) (now (trees .exit)) (now (cpus .exit))) (now (rec .exit)) ≡ followed (noRecord Answer.Closed (now (header .entry))) (zone (now (header .entry)) (now (words .entry)) (now (children .entry)) (now (trees .entry)) (now (cpus .entry))) (now (rec .entry)) (follow step (fuel - made) made (Answer.UnderWay next) (zone (now (header .entry)) (now (words .entry)) (now (children .entry)) (now (trees .entry)) (now (cpus .entry)))) ⌝ }
+{
+    let ended = runs::step_on(header, words, children, trees, cpus, next, made, fuel);
+    let answer = ended.answer;
+    told_run(rec, answer, ended.steps)
 }
 
 // What is answered to a record slice of another length: what comes before 8, or 8. A closed zone is answered `closed`.
@@ -214,10 +252,7 @@ pub extern "C" fn lovarntek_step(
     if rec.len() != RECORD {
         return told(no_record(header, Answer::Closed));
     }
-    let given = records::decode(records::Words {
-        first: rec[0],
-        second: rec[1],
-    });
+    let given = records::decode(rec[0], rec[1]);
     let answer = upper::step(header, words, children, trees, cpus, given);
     hand_back(rec, answer);
     told(answer)
@@ -238,37 +273,10 @@ pub extern "C" fn lovarntek_run(
     if rec.len() != RECORD {
         return told_run(rec, no_record(header, Answer::Closed), 0);
     }
-    let given = records::decode(records::Words {
-        first: rec[0],
-        second: rec[1],
-    });
+    let given = records::decode(rec[0], rec[1]);
     let ended = runs::run(header, words, children, trees, cpus, given, fuel);
     let answer = ended.answer;
     told_run(rec, answer, ended.steps)
-}
-
-// What follows a beginning's answer: up to `fuel` steps, where the operation is under way.
-fn begun(
-    header: &[u64],
-    words: &mut [u64],
-    children: &mut [u16],
-    trees: &mut [u16],
-    cpus: &mut [u64],
-    rec: &mut [u64],
-    answer: Answer,
-    fuel: u64,
-) -> Ran
-    requires { ⌜ length (now rec) ≡ recordWords ⌝ }
-    ensures { λ r. ⌜ called r (zone (now (header .entry)) (now (words .exit)) (now (children .exit)) (now (trees .exit)) (now (cpus .exit))) (now (rec .exit)) ≡ followed (noRecord Answer.Closed (now (header .entry))) (zone (now (header .entry)) (now (words .entry)) (now (children .entry)) (now (trees .entry)) (now (cpus .entry))) (now (rec .entry)) (follow step fuel 0 answer (zone (now (header .entry)) (now (words .entry)) (now (children .entry)) (now (trees .entry)) (now (cpus .entry)))) ⌝ }
-{
-    match calls::next_of(answer) {
-        Next::Ends => told_run(rec, answer, 0),
-        Next::GoesOn(next) => {
-            let ended = runs::run(header, words, children, trees, cpus, next, fuel);
-            let last = ended.answer;
-            told_run(rec, last, ended.steps)
-        }
-    }
 }
 
 #[no_mangle]
@@ -288,8 +296,23 @@ pub extern "C" fn lovarntek_get_run(
     if rec.len() != RECORD {
         return told_run(rec, no_record(header, Answer::Closed), 0);
     }
-    let answer = begins::begin_get(header, words, children, trees, cpus, cpu, order);
-    begun(header, words, children, trees, cpus, rec, answer, fuel)
+    match get_runs::get_run(header, words, children, trees, cpus, cpu, order, fuel) {
+        Way::Ends(ended) => {
+            let answer = ended.answer;
+            told_run(rec, answer, ended.steps)
+        }
+        Way::Goes { rec: next, steps } => told_steps(
+            header,
+            words,
+            children,
+            trees,
+            cpus,
+            rec,
+            next,
+            steps,
+            fuel,
+        ),
+    }
 }
 
 #[no_mangle]
@@ -310,7 +333,7 @@ pub extern "C" fn lovarntek_put_run(
     if rec.len() != RECORD {
         return told_run(rec, no_record(header, Answer::Closed), 0);
     }
-    let answer = begins::begin_put(
+    match put_runs::put_run(
         header,
         words,
         children,
@@ -319,8 +342,24 @@ pub extern "C" fn lovarntek_put_run(
         cpu,
         Frame(first),
         order,
-    );
-    begun(header, words, children, trees, cpus, rec, answer, fuel)
+        fuel,
+    ) {
+        Way::Ends(ended) => {
+            let answer = ended.answer;
+            told_run(rec, answer, ended.steps)
+        }
+        Way::Goes { rec: next, steps } => told_steps(
+            header,
+            words,
+            children,
+            trees,
+            cpus,
+            rec,
+            next,
+            steps,
+            fuel,
+        ),
+    }
 }
 
 // ---- create
@@ -361,10 +400,7 @@ fn create_on(
     if rec.len() != RECORD {
         return told_run(rec, no_create_record(n), 0);
     }
-    let given = records::decode(records::Words {
-        first: rec[0],
-        second: rec[1],
-    });
+    let given = records::decode(rec[0], rec[1]);
     let ended = creating::run(header, words, children, trees, cpus, n, given, fuel);
     let answer = ended.answer;
     told_run(rec, answer, ended.steps)
@@ -441,10 +477,7 @@ fn open_on(
     if rec.len() != RECORD {
         return told_run(rec, no_record(header, Answer::Closed), 0);
     }
-    let given = records::decode(records::Words {
-        first: rec[0],
-        second: rec[1],
-    });
+    let given = records::decode(rec[0], rec[1]);
     let ended = opening::run(header, words, children, trees, cpus, given, fuel);
     let answer = ended.answer;
     told_run(rec, answer, ended.steps)

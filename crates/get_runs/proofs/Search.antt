@@ -13,6 +13,7 @@ use Rattle.rules.specs.declared.Run.{Run}
 use Rattle.rules.specs.Numbers.{childWords, Shape as Rules, childrenOf}
 use Rattle.rules.specs.Ranges.{placeIn, takingIn}
 use Rattle.rules.specs.Zone.{Zone}
+use Rattle.rules.specs.Answers.{number}
 use Rattle.rules.specs.Plan.{plain, takes}
 use Rattle.rules.specs.Blocks.{runSize, frameAt}
 use Rattle.rules.specs.Lower.{claim, takeHuge}
@@ -21,7 +22,7 @@ use Rattle.rules.specs.Step.{step, Ran, follow}
 use Rattle.entries.specs.Sizes as Sizes
 use Rattle.places.specs.Shapes.{shapeOf}
 use Rattle.places.proofs.Ranges.{children-same}
-use Rattle.calls.specs.Results.{zone, wayOf, wentTo, Opened}
+use Rattle.calls.specs.Results.{zone, wentTo, Opened}
 use Rattle.child_stages.specs.Tables.{lentChildren, inChildren}
 use Rattle.child_stages.specs.Answers.{claimedAnswer}
 use Rattle.child_stages.proofs.Rules.{next-round, next-on, claimed-made}
@@ -31,7 +32,8 @@ use Rattle.word_stages.specs.Answers.{wordAnswer}
 use Rattle.word_stages.proofs.Rules.{word-made}
 use Rattle.get_runs.specs.Types.{Frame, Tree, Order, Block, Place, Taking, Record, Answer, Claimed, Taken, Bit, Took, Shape, Way}
 use Rattle.get_runs.specs.Claims.{noChild, claimsIn, claimed}
-use Rattle.get_runs.proofs.Steps.{Makes, child-step, word-step, went, goes}
+use Rattle.upper.proofs.Runs.{Makes, still, goes}
+use Rattle.get_runs.proofs.Steps.{child-step, word-step}
 
 -- ---- a claim on a child of the own tree
 
@@ -89,13 +91,13 @@ module _ (s : Shape) (cpu : ℕ) (v : Run) (t : Tree) (i k j : ℕ) where
     Before = follow step (fuel - n) n (get (shapeOf s) cpu (wordAt v t i k j)) (zone h w c ts p)
 
     pub word-next : {u : Bit} → x ≡ Taken.Word u → u ≡ Bit.Full → follow step (fuel - (n + 1)) (n + 1) (get (shapeOf s) cpu (wordAt v t i k (j + 1))) (zone h m c ts p) ≡ Before
-    word-next q r = goes fuel n _ _ l word-told (ap (wordAnswer (shapeOf s) cpu v (Place.Own t) i k j) (q ∙ ap Taken.Word r) ∙ word-full)
+    word-next q r = goes fuel n _ _ word-told l (ap (wordAnswer (shapeOf s) cpu v (Place.Own t) i k j) (q ∙ ap Taken.Word r) ∙ word-full)
 
     pub word-found : {u : Bit} (a : ℕ) {f : Frame} {y : Ran} → x ≡ Taken.Word u → u ≡ Bit.At a → f ≡ frameAt (shapeOf s) t k j a → y ≡ follow step (fuel - (n + 1)) (n + 1) (get (shapeOf s) cpu (Taking.Last (Block.Run v f))) (zone h m c ts p) → y ≡ Before
-    word-found a q r g f = f ∙ goes fuel n _ _ l word-told (ap (wordAnswer (shapeOf s) cpu v (Place.Own t) i k j) (q ∙ ap Taken.Word r) ∙ ap (λ f. get (shapeOf s) cpu (Taking.Last (Block.Run v f))) (sym g))
+    word-found a q r g f = f ∙ goes fuel n _ _ word-told l (ap (wordAnswer (shapeOf s) cpu v (Place.Own t) i k j) (q ∙ ap Taken.Word r) ∙ ap (λ f. get (shapeOf s) cpu (Taking.Last (Block.Run v f))) (sym g))
 
-    pub word-refused : {x′ : Taken} {y : Way} → x ≡ x′ → y ≡ wayOf (wordAnswer (shapeOf s) cpu v (Place.Own t) i k j x′) (n + 1) → wentTo step fuel y (zone h m c ts p) ≡ Before
-    word-refused q r = went fuel n _ _ l word-told (r ∙ ap (λ x. wayOf (wordAnswer (shapeOf s) cpu v (Place.Own t) i k j x) (n + 1)) (sym q))
+    pub word-stands : {x′ : Taken} → x ≡ x′ → 2 ≤ number (wordAnswer (shapeOf s) cpu v (Place.Own t) i k j x′) → wentTo step fuel (Way.Goes (Record.Get cpu (Taking.Word v (Place.Own t) i k j)) n) (zone h m c ts p) ≡ Before
+    word-stands q r = ap (λ x. wentTo step fuel (Way.Goes (Record.Get cpu x) n) (zone h m c ts p)) (sym (word-at v t i k j d)) ∙ still fuel n _ _ word-told (rw q r)
 
 -- ---- the children of the own tree
 
@@ -143,15 +145,15 @@ module _ (s : Shape) (cpu : ℕ) (q : Order) (t : Tree) (i k : ℕ) (b : Passes 
     Search = follow step (fuel - n) n (get (shapeOf s) cpu (Taking.Child q (Place.Own t) i k)) (zone h w c ts p)
 
     pub child-taken : {y : Ran} → x ≡ Claimed.Entry Took.Taken → y ≡ follow step (fuel - (n + 1)) (n + 1) (get (shapeOf s) cpu (claimed (shapeOf s) q t i k)) (zone h w m ts p) → y ≡ Search
-    child-taken r f = f ∙ goes fuel n _ _ l child-told (ap answer r)
+    child-taken r f = f ∙ goes fuel n _ _ child-told l (ap answer r)
 
-    pub child-refused : {x′ : Claimed} {y : Way} → x ≡ x′ → y ≡ wayOf (answer x′) (n + 1) → wentTo step fuel y (zone h w m ts p) ≡ Search
-    child-refused r f = went fuel n _ _ l child-told (f ∙ ap (λ x. wayOf (answer x) (n + 1)) (sym r))
+    pub child-stands : {x′ : Claimed} → x ≡ x′ → 2 ≤ number (answer x′) → wentTo step fuel (Way.Goes (Record.Get cpu (Taking.Child q (Place.Own t) i k)) n) (zone h w m ts p) ≡ Search
+    child-stands r f = still fuel n _ _ child-told (rw r f)
 
     module _ {d : ℕ} (r : x ≡ Claimed.Entry Took.Passed) (f : Turned d) where
       pub search-fails : d ≡ i → wentTo step fuel (Way.Goes (Record.Get cpu (Taking.Fail q (Place.Own t))) (n + 1)) (zone h w m ts p) ≡ Search
       unfolding wentTo
-      search-fails z = goes fuel n _ _ l child-told (ap answer r ∙ (f .next ∙ pick-yes _ _ _ (eq-eqb d i z)))
+      search-fails z = goes fuel n _ _ child-told l (ap answer r ∙ (f .next ∙ pick-yes _ _ _ (eq-eqb d i z)))
 
       pub search-goes : (d ≡ i → ⊥) → follow step (fuel - (n + 1)) (n + 1) (get (shapeOf s) cpu (Taking.Child q (Place.Own t) i d)) (zone h w m ts p) ≡ Search
-      search-goes z = goes fuel n _ _ l child-told (ap answer r ∙ (f .next ∙ pick-no _ _ _ (ne-eqb d i z)))
+      search-goes z = goes fuel n _ _ child-told l (ap answer r ∙ (f .next ∙ pick-no _ _ _ (ne-eqb d i z)))

@@ -2,44 +2,37 @@
 use mathlib.Core.Path.{_≡_, refl, sym, ap, _∙_}
 use mathlib.Core.Bool.{Bool, true, false}
 use mathlib.Core.List.{List, [], _++_}
-use Prim.Native.Nat.{ℕ, _+_, _-_, _<_}
+use Prim.Native.Nat.{ℕ, _+_, _-_, _≤_, _<_}
 use native.Mathlib.Omega.{arith}
-use lib.ListN.{length}
 use Rattle.laws.specs.Tests.{passes, Passes}
 use Rattle.laws.specs.Tables.{Outcome, outcome}
 use Rattle.laws.proofs.Tests.{pick-no, all-passed, fails-of, passes-of, true-false}
 use Rattle.rules.specs.declared.Run.{Run}
 use Rattle.rules.specs.Ranges.{cpuIn, childIn, blockIn, placeIn, takingIn, stepRange}
-use Rattle.rules.specs.Zone.{Zone}
+use Rattle.rules.specs.Answers.{number}
 use Rattle.rules.specs.Plan.{carried}
-use Rattle.rules.specs.Blocks.{size}
+use Rattle.rules.specs.Blocks.{size, firstOf}
 use Rattle.rules.specs.Places.{placeTree}
 use Rattle.rules.specs.Take.{get, take}
 use Rattle.rules.specs.Step.{act, step, Ran, follow}
-use Rattle.places.specs.Shapes.{shapeOf, ranged}
-use Rattle.calls.specs.Results.{zone, result, done, wayOf, wentTo, Fits, Opened}
+use Rattle.places.specs.Shapes.{shapeOf, blockAtIn, ranged}
+use Rattle.places.specs.declared.BlockAt.{BlockAt}
+use Rattle.calls.specs.Results.{zone, result, done, wayBy, wentTo, Fits, Opened}
 use Rattle.calls.proofs.Opened.{checked-open}
-use Rattle.calls.proofs.Runs.{stepped, way-goes}
 use Rattle.cpu_entries.specs.declared.Claimed.{Claimed as Owned}
-use Rattle.cpu_entries.specs.Steps.{claimOwnIn}
+use Rattle.cpu_entries.specs.declared.Held.{Held}
+use Rattle.cpu_entries.specs.Steps.{claimOwnIn, setStartIn}
 use Rattle.cpu_stages.specs.Tables.{inCpus}
-use Rattle.cpu_stages.specs.Answers.{ownAnswer}
-use Rattle.cpu_stages.proofs.Rules.{own-rule}
+use Rattle.cpu_stages.specs.Answers.{ownAnswer, heldAnswer}
+use Rattle.cpu_stages.proofs.Rules.{own-rule, last-rule}
 use Rattle.child_stages.specs.Tables.{inChildren}
 use Rattle.word_stages.specs.Tables.{inWords, eighth}
 use Rattle.upper.proofs.Arms.{get-cpu, get-child, get-word, get-last}
 use Rattle.upper.proofs.Stepped.{step-out, step-acts}
-use Rattle.get_runs.specs.Types.{Tree, Order, Block, Place, Taking, Record, Answer, Shape, Way}
-
--- tables of the same lengths are an open zone's too
-pub still-open : {s : Shape} {cpu : ℕ} {h w c t p w′ c′ p′ : List ℕ} → Opened s cpu h w c t p → length w′ ≡ length w → length c′ ≡ length c → length p′ ≡ length p → Opened s cpu h w′ c′ t p′
-still-open o u v x = record { checks = rw (u, v, x) (o .checks); cpu-in = o .cpu-in }
+use Rattle.upper.proofs.Runs.{Makes, still, went, goes}
+use Rattle.get_runs.specs.Types.{Frame, Tree, Order, Block, Place, Taking, Record, Answer, Shape, Way}
 
 -- ---- steps, by the table that holds the stage's entry
-
--- the step of record r in zone z answers a and leaves the zone z′
-abbrev pub Makes : Zone → Record → Answer → Zone → Type 0
-Makes z r a z′ = result a z′ ≡ done z (step z r)
 
 module _ {s : Shape} {cpu : ℕ} {h w c t p : List ℕ} (o : Opened s cpu h w c t p) where
   ready : (x : Taking) → Passes (takingIn (shapeOf s) cpu x) → Fits s w c t p × Passes (cpuIn (shapeOf s) cpu ++ takingIn (shapeOf s) cpu x)
@@ -75,16 +68,25 @@ module _ {s : Shape} {cpu : ℕ} {h w c t p : List ℕ} (o : Opened s cpu h w c 
             ap (λ (x : Outcome Answer). result (x .said) (zone h w c t (x .table))) (e ∙ pick-no _ _ _ q)
             ∙ step-out h w c t p (Record.Get cpu (Taking.Last b)) (o .checks) refl (fails-of (stepRange (shapeOf s) (Record.Get cpu (Taking.Last b))) (λ k. true-false (sym (passes-of (blockIn (shapeOf s) b) (k .1)) ∙ q)))
 
--- ---- a run, one step on
+-- ---- the last step
 
-module _ (fuel k : ℕ) (r : Record) (z : Zone) {z′ : Zone} {a : Answer} (l : k < fuel) (e : Makes z r a z′) where
-  -- it goes on as the step's answer says
-  pub went : {y : Way} → y ≡ wayOf a (k + 1) → wentTo step fuel y z′ ≡ follow step (fuel - k) k (Answer.UnderWay r) z
-  went q = ap (λ x. wentTo step fuel x z′) q ∙ (way-goes step fuel (k + 1) a z′ ∙ sym (stepped step fuel k z r l e refl))
+module _ {s : Shape} {cpu : ℕ} {h w c t p : List ℕ} (o : Opened s cpu h w c t p) (fuel k : ℕ) (l : k < fuel) (b : Block) {d : Block} (n : d ≡ b) {x : BlockAt} {u : Tree} {i : ℕ} (e : x ≡ blockAtIn (shapeOf s) d) (q : x ≡ BlockAt.At u i)
+    {a : Held} {m : List ℕ} (f : outcome a m ≡ setStartIn (s .size) cpu u i p) where
+  abbrev lastAnswer : Answer
+  lastAnswer = heldAnswer (Answer.Done (firstOf b)) (Answer.Done (firstOf b)) a
 
-  -- it stands at the answer's record
-  pub goes : {b : Answer} → a ≡ b → follow step (fuel - (k + 1)) (k + 1) b z′ ≡ follow step (fuel - k) k (Answer.UnderWay r) z
-  goes q = ap (λ b. follow step (fuel - (k + 1)) (k + 1) b z′) (sym q) ∙ sym (stepped step fuel k z r l e refl)
+  last-told : Makes (zone h w c t p) (Record.Get cpu (Taking.Last b)) lastAnswer (zone h w c t m)
+  last-told = last-step o b (last-rule s cpu b p u i (rw n at e) q refl f refl)
+
+  abbrev Ending : Ran
+  Ending = follow step (fuel - k) k (get (shapeOf s) cpu (Taking.Last b)) (zone h w c t p)
+
+  pub last-done : {v : Frame} → lastAnswer ≡ Answer.Done (firstOf b) → v ≡ firstOf d → wentTo step fuel (Way.Ends (record { answer = Answer.Done v; steps = k + 1 })) (zone h w c t m) ≡ Ending
+  unfolding wayBy
+  last-done r y = went fuel k _ _ last-told l (rw (y, n, r) refl)
+
+  pub last-stands : 2 ≤ number lastAnswer → wentTo step fuel (Way.Goes (Record.Get cpu (Taking.Last b)) k) (zone h w c t m) ≡ Ending
+  last-stands r = still fuel k _ _ last-told r
 
 -- ---- the own entry
 
@@ -105,7 +107,11 @@ module _ (s : Shape) (cpu : ℕ) (q : Order) (n : ℕ) {h w c t p : List ℕ} (o
   Begun = follow step (fuel - 0) 0 (get (shapeOf s) cpu (Taking.Own q)) (zone h w c t p)
 
   pub own-claimed : {u : Tree} {i : ℕ} {y : Ran} → x ≡ Owned.Claimed u i → y ≡ follow step (fuel - 1) 1 (get (shapeOf s) cpu (Taking.Child q (Place.Own u) i i)) (zone h w c t m) → y ≡ Begun
-  own-claimed r f = f ∙ goes fuel 0 _ _ (some-fuel l) own-told (ap (ownAnswer (shapeOf s) cpu q) r)
+  own-claimed r f = f ∙ goes fuel 0 _ _ own-told (some-fuel l) (ap (ownAnswer (shapeOf s) cpu q) r)
 
-  pub own-answered : {v : Owned} {a : Answer} {y : Way} → v ≡ x → a ≡ ownAnswer (shapeOf s) cpu q v → y ≡ wayOf a 1 → wentTo step fuel y (zone h w c t m) ≡ Begun
-  own-answered u r f = went fuel 0 _ _ (some-fuel l) own-told (f ∙ ap (λ a. wayOf a 1) (r ∙ ap (ownAnswer (shapeOf s) cpu q) u))
+  pub own-goes : {v : Owned} {r : Record} → x ≡ v → ownAnswer (shapeOf s) cpu q v ≡ Answer.UnderWay r → wentTo step fuel (Way.Goes r 1) (zone h w c t m) ≡ Begun
+  unfolding wayBy
+  own-goes u r = went fuel 0 _ _ own-told (some-fuel l) (rw (u, r) refl)
+
+  pub own-stands : {v : Owned} → x ≡ v → 2 ≤ number (ownAnswer (shapeOf s) cpu q v) → wentTo step fuel (Way.Goes (Record.Get cpu (Taking.Own q)) 0) (zone h w c t m) ≡ Begun
+  own-stands u r = still fuel 0 _ _ own-told (rw u r)

@@ -4,21 +4,30 @@ ghost use mathlib.Core.Path.{_≡_};
 ghost use Rattle.laws.specs.Tests.{Passes};
 ghost use Rattle.laws.specs.Tables.{outcome};
 ghost use Rattle.rules.specs.Ranges.{takingIn};
-ghost use Rattle.rules.specs.Step.{step};
+ghost use Rattle.rules.specs.Begin.{beginGet};
+ghost use Rattle.rules.specs.Conversions.{frame};
+ghost use Rattle.rules.specs.Step.{step, follow};
 ghost use Rattle.places.specs.Shapes.{shapeOf};
-ghost use Rattle.calls.specs.Results.{zone, Opened, WentOn};
+ghost use Rattle.calls.specs.Results.{zone, Opened, wentTo, WentOn};
 ghost use Rattle.child_stages.specs.Tables.{lentChildren};
 ghost use Rattle.get_runs.specs.Claims.{noChild, claimsIn, claimed};
+ghost use Rattle.get_runs.specs.Stands.{standing, blockOf, wayLeft};
+use begins::Getting;
 use calls::Checked;
+use calls::Ended;
 use calls::Way;
 use cpu_entries::Claimed;
+use cpu_entries::Held;
 use lower::Taken;
+use places::BlockAt;
 use places::Shape;
 use rules::Answer;
 use rules::Bit;
 use rules::Block;
+use rules::Frame;
 use rules::Huge;
 use rules::Order;
+use rules::Pass;
 use rules::Place;
 use rules::Record;
 use rules::Run;
@@ -27,6 +36,161 @@ use rules::Took;
 use rules::Tree;
 
 const CHILD_WORDS: u8 = 8;
+
+// Where a get stands: before a stage, or at its end.
+enum At {
+    Own,
+    Try,
+    TakeCount,
+    Child,
+    Fail,
+    Word,
+    GiveBack,
+    Last,
+    Done,
+}
+
+// A get that stands there, with what the stages after it need; what a stage has no use for is 0. Before a stage that is refused it stands still: a refusal
+// stores nothing, and the single step answers it. The fields fill their eight bytes and lie apart, so that a store of one is what a load of it reads.
+struct Left {
+    at: At,
+    start: u8,
+    child: u8,
+    word: u8,
+    tree: Tree,
+    order: Order,
+    first: Frame,
+    steps: u64,
+}
+
+fn stands(at: At, order: Order, tree: Tree, start: u8, child: u8, steps: u64) -> Left
+    ensures { λ r. ⌜ r ≡ standing at order tree start child 0 (frame 0) steps ⌝ }
+{
+    Left {
+        at,
+        start,
+        child,
+        word: 0,
+        tree,
+        order,
+        first: Frame(0),
+        steps,
+    }
+}
+
+fn at_word(order: Order, tree: Tree, start: u8, child: u8, word: u8, steps: u64) -> Left
+    ensures { λ r. ⌜ r ≡ standing At.Word order tree start child word (frame 0) steps ⌝ }
+{
+    Left {
+        at: At::Word,
+        start,
+        child,
+        word,
+        tree,
+        order,
+        first: Frame(0),
+        steps,
+    }
+}
+
+fn taken(at: At, order: Order, tree: Tree, child: u8, first: Frame, steps: u64) -> Left
+    ensures { λ r. ⌜ r ≡ standing at order tree 0 child 0 first steps ⌝ }
+{
+    Left {
+        at,
+        start: 0,
+        child,
+        word: 0,
+        tree,
+        order,
+        first,
+        steps,
+    }
+}
+
+// The block that was taken: a run by its first frame, a huge frame by its child.
+fn block_of(order: Order, tree: Tree, child: u8, first: Frame) -> Block
+    ensures { λ r. ⌜ r ≡ blockOf order tree child first ⌝ }
+{
+    match order {
+        Order::Run(run) => Block::Run { run, first },
+        Order::Nine => Block::Whole(Huge(tree.0 as u32 * 32 + child as u32)),
+    }
+}
+
+fn goes(cpu: u8, stage: Taking, steps: u64) -> Way
+    ensures { λ r. ⌜ r ≡ Way.Goes (Record.Get cpu stage) steps ⌝ }
+{
+    Way::Goes {
+        rec: Record::Get { cpu, stage },
+        steps,
+    }
+}
+
+// How the run of a get goes on that stands so.
+fn way_left(cpu: u8, left: Left) -> Way
+    ensures { λ r. ⌜ r ≡ wayLeft cpu left ⌝ }
+{
+    let order = left.order;
+    let tree = left.tree;
+    let place = Place::Own(tree);
+    let start = left.start;
+    let child = left.child;
+    let first = left.first;
+    let steps = left.steps;
+    let at = left.at;
+    match at {
+        At::Own => goes(cpu, Taking::Own(order), steps),
+        At::Try => {
+            let pass = Pass::Partial(Tree(0));
+            goes(cpu, Taking::Try { order, pass }, steps)
+        }
+        At::TakeCount => goes(cpu, Taking::TakeCount { order, tree }, steps),
+        At::Child => {
+            let stage = Taking::Child {
+                order,
+                place,
+                start,
+                child,
+            };
+            goes(cpu, stage, steps)
+        }
+        At::Fail => goes(cpu, Taking::Fail { order, place }, steps),
+        At::Word => match order {
+            Order::Run(run) => {
+                let stage = Taking::Word {
+                    run,
+                    place,
+                    start,
+                    child,
+                    word: left.word,
+                };
+                goes(cpu, stage, steps)
+            }
+            Order::Nine => goes(cpu, Taking::Own(order), steps),
+        },
+        At::GiveBack => match order {
+            Order::Run(run) => {
+                let stage = Taking::GiveBack {
+                    run,
+                    place,
+                    start,
+                    child,
+                };
+                goes(cpu, stage, steps)
+            }
+            Order::Nine => goes(cpu, Taking::Own(order), steps),
+        },
+        At::Last => {
+            let block = block_of(order, tree, child, first);
+            goes(cpu, Taking::Last(block), steps)
+        }
+        At::Done => Way::Ends(Ended {
+            answer: Answer::Done(first),
+            steps,
+        }),
+    }
+}
 
 // Rule 6.
 fn last_on(
@@ -37,23 +201,41 @@ fn last_on(
     cpus: &mut [u64],
     shape: Shape,
     cpu: u8,
-    block: Block,
-    steps: u64,
+    left: Left,
     fuel: u64,
-) -> Way
-    requires { ⌜ Opened shape cpu (now header) (now words) (now children) (now trees) (now cpus) ⌝ }
-    ensures { λ r. ⌜ WentOn step fuel steps (Record.Get cpu (Taking.Last block)) r (zone (now (header .entry)) (now (words .entry)) (now (children .entry)) (now (trees .entry)) (now (cpus .exit))) (zone (now (header .entry)) (now (words .entry)) (now (children .entry)) (now (trees .entry)) (now (cpus .entry))) ⌝ }
+) -> Left
+    requires { ⌜ Opened shape cpu (now header) (now words) (now children) (now trees) (now cpus) × (left .at ≡ At.Last) ⌝ }
+    ensures { λ r. ⌜ WentOn step fuel (left .steps) (Record.Get cpu (Taking.Last (blockOf (left .order) (left .tree) (left .child) (left .first)))) (wayLeft cpu r) (zone (now (header .entry)) (now (words .entry)) (now (children .entry)) (now (trees .entry)) (now (cpus .exit))) (zone (now (header .entry)) (now (words .entry)) (now (children .entry)) (now (trees .entry)) (now (cpus .entry))) ⌝ }
 {
+    let order = left.order;
+    let tree = left.tree;
+    let first = left.first;
+    let child = left.child;
+    let steps = left.steps;
     if fuel <= steps {
-        return Way::Goes {
-            rec: Record::Get {
-                cpu,
-                stage: Taking::Last(block),
-            },
-            steps,
-        };
+        return left;
     }
-    calls::way_of(cpu_stages::last(cpus, shape, cpu, block), steps + 1)
+    let block = block_of(order, tree, child, first);
+    match places::block_at(shape, block) {
+        BlockAt::Nowhere => left,
+        BlockAt::At {
+            tree: held,
+            child: found,
+        } => {
+            match cpu_entries::set_start(cpus, shape.size, cpu as usize, held, found) {
+                Held::Held => {
+                    let end = places::first_of(block);
+                    taken(At::Done, order, tree, child, end, steps + 1)
+                }
+                Held::Missed => {
+                    let end = places::first_of(block);
+                    taken(At::Done, order, tree, child, end, steps + 1)
+                }
+                Held::Damaged => left,
+                Held::NoCpu => left,
+            }
+        }
+    }
 }
 
 // Rule 5: the words of a child that was claimed from.
@@ -62,7 +244,7 @@ fn word_on(
     words: &mut [u64],
     children: &[u16],
     trees: &[u16],
-    cpus: &mut [u64],
+    cpus: &[u64],
     shape: Shape,
     cpu: u8,
     run: Run,
@@ -71,79 +253,45 @@ fn word_on(
     child: u8,
     made: u64,
     fuel: u64,
-) -> Way
+) -> Left
     requires { ⌜ Opened shape cpu (now header) (now words) (now children) (now trees) (now cpus) × Passes (takingIn (shapeOf shape) cpu (Taking.Child (Order.Run run) (Place.Own tree) start child)) ⌝ }
-    ensures { λ r. ⌜ WentOn step fuel made (Record.Get cpu (Taking.Word run (Place.Own tree) start child 0)) r (zone (now (header .entry)) (now (words .exit)) (now (children .entry)) (now (trees .entry)) (now (cpus .exit))) (zone (now (header .entry)) (now (words .entry)) (now (children .entry)) (now (trees .entry)) (now (cpus .entry))) ⌝ }
+    ensures { λ r. ⌜ WentOn step fuel made (Record.Get cpu (Taking.Word run (Place.Own tree) start child 0)) (wayLeft cpu r) (zone (now (header .entry)) (now (words .exit)) (now (children .entry)) (now (trees .entry)) (now (cpus .entry))) (zone (now (header .entry)) (now (words .entry)) (now (children .entry)) (now (trees .entry)) (now (cpus .entry))) ⌝ }
 {
-    let place = Place::Own(tree);
+    let order = Order::Run(run);
     let mut steps = made;
     let mut word: u8 = 0;
     while word < CHILD_WORDS {
         if fuel <= steps {
-            return Way::Goes {
-                rec: Record::Get {
-                    cpu,
-                    stage: Taking::Word {
-                        run,
-                        place,
-                        start,
-                        child,
-                        word,
-                    },
-                },
-                steps,
-            };
+            return at_word(order, tree, start, child, word, steps);
         }
         match word_stages::take_run(words, shape, tree, child, word, run) {
             Taken::Word(found) => match found {
                 Bit::At(bit) => {
                     let first = word_stages::frame_at(shape, tree, child, word, bit);
-                    return last_on(
-                        header,
-                        words,
-                        children,
-                        trees,
-                        cpus,
-                        shape,
-                        cpu,
-                        Block::Run { run, first },
-                        steps + 1,
-                        fuel,
-                    );
+                    return taken(At::Last, order, tree, child, first, steps + 1);
                 }
                 Bit::Full => {}
             },
             Taken::NoChild => {
-                return calls::way_of(Answer::BadRecord, steps + 1);
+                return at_word(order, tree, start, child, word, steps);
             }
             Taken::NoWord => {
-                return calls::way_of(Answer::BadRecord, steps + 1);
+                return at_word(order, tree, start, child, word, steps);
             }
         }
         steps += 1;
         word += 1;
     }
-    Way::Goes {
-        rec: Record::Get {
-            cpu,
-            stage: Taking::GiveBack {
-                run,
-                place,
-                start,
-                child,
-            },
-        },
-        steps,
-    }
+    stands(At::GiveBack, order, tree, start, child, steps)
 }
 
-// What follows a claim: the words, or the last step.
+// What follows a claim: the words, or before the last step.
 fn taken_on(
     header: &[u64],
     words: &mut [u64],
     children: &[u16],
     trees: &[u16],
-    cpus: &mut [u64],
+    cpus: &[u64],
     shape: Shape,
     cpu: u8,
     order: Order,
@@ -152,9 +300,9 @@ fn taken_on(
     child: u8,
     steps: u64,
     fuel: u64,
-) -> Way
+) -> Left
     requires { ⌜ Opened shape cpu (now header) (now words) (now children) (now trees) (now cpus) × Passes (takingIn (shapeOf shape) cpu (Taking.Child order (Place.Own tree) start child)) ⌝ }
-    ensures { λ r. ⌜ WentOn step fuel steps (Record.Get cpu (claimed (shapeOf shape) order tree start child)) r (zone (now (header .entry)) (now (words .exit)) (now (children .entry)) (now (trees .entry)) (now (cpus .exit))) (zone (now (header .entry)) (now (words .entry)) (now (children .entry)) (now (trees .entry)) (now (cpus .entry))) ⌝ }
+    ensures { λ r. ⌜ WentOn step fuel steps (Record.Get cpu (claimed (shapeOf shape) order tree start child)) (wayLeft cpu r) (zone (now (header .entry)) (now (words .exit)) (now (children .entry)) (now (trees .entry)) (now (cpus .entry))) (zone (now (header .entry)) (now (words .entry)) (now (children .entry)) (now (trees .entry)) (now (cpus .entry))) ⌝ }
 {
     match order {
         Order::Run(run) => word_on(
@@ -172,21 +320,7 @@ fn taken_on(
             steps,
             fuel,
         ),
-        Order::Nine => {
-            let block = Block::Whole(Huge(tree.0 as u32 * 32 + child as u32));
-            last_on(
-                header,
-                words,
-                children,
-                trees,
-                cpus,
-                shape,
-                cpu,
-                block,
-                steps,
-                fuel,
-            )
-        }
+        Order::Nine => taken(At::Last, order, tree, child, Frame(0), steps),
     }
 }
 
@@ -206,7 +340,7 @@ fn child_on(
     words: &mut [u64],
     children: &mut [u16],
     trees: &[u16],
-    cpus: &mut [u64],
+    cpus: &[u64],
     shape: Shape,
     cpu: u8,
     order: Order,
@@ -214,9 +348,9 @@ fn child_on(
     start: u8,
     made: u64,
     fuel: u64,
-) -> Way
+) -> Left
     requires { ⌜ Opened shape cpu (now header) (now words) (now children) (now trees) (now cpus) × Passes (takingIn (shapeOf shape) cpu (Taking.Child order (Place.Own tree) start start)) ⌝ }
-    ensures { λ r. ⌜ WentOn step fuel made (Record.Get cpu (Taking.Child order (Place.Own tree) start start)) r (zone (now (header .entry)) (now (words .exit)) (now (children .exit)) (now (trees .entry)) (now (cpus .exit))) (zone (now (header .entry)) (now (words .entry)) (now (children .entry)) (now (trees .entry)) (now (cpus .entry))) ⌝ }
+    ensures { λ r. ⌜ WentOn step fuel made (Record.Get cpu (Taking.Child order (Place.Own tree) start start)) (wayLeft cpu r) (zone (now (header .entry)) (now (words .exit)) (now (children .exit)) (now (trees .entry)) (now (cpus .entry))) (zone (now (header .entry)) (now (words .entry)) (now (children .entry)) (now (trees .entry)) (now (cpus .entry))) ⌝ }
 {
     let width = entries::children_of(shape.size, tree) as u8;
     let mut steps = made;
@@ -243,11 +377,11 @@ fn child_on(
                 }
                 Took::Passed => {}
                 Took::Damaged => {
-                    return calls::way_of(Answer::Damaged, steps + 1);
+                    return stands(At::Child, order, tree, start, child, steps);
                 }
             },
             lower::Claimed::NoChild => {
-                return calls::way_of(Answer::BadRecord, steps + 1);
+                return stands(At::Child, order, tree, start, child, steps);
             }
         }
         steps += 1;
@@ -256,30 +390,10 @@ fn child_on(
             child = 0;
         }
         if child == start {
-            return Way::Goes {
-                rec: Record::Get {
-                    cpu,
-                    stage: Taking::Fail {
-                        order,
-                        place: Place::Own(tree),
-                    },
-                },
-                steps,
-            };
+            return stands(At::Fail, order, tree, 0, 0, steps);
         }
     }
-    Way::Goes {
-        rec: Record::Get {
-            cpu,
-            stage: Taking::Child {
-                order,
-                place: Place::Own(tree),
-                start,
-                child,
-            },
-        },
-        steps,
-    }
+    stands(At::Child, order, tree, start, child, steps)
 }
 
 // Rule 1.
@@ -293,39 +407,43 @@ fn own_on(
     cpu: u8,
     order: Order,
     fuel: u64,
-) -> Way
+) -> Left
     requires { ⌜ Opened shape cpu (now header) (now words) (now children) (now trees) (now cpus) ⌝ }
-    ensures { λ r. ⌜ WentOn step fuel 0 (Record.Get cpu (Taking.Own order)) r (zone (now (header .entry)) (now (words .exit)) (now (children .exit)) (now (trees .entry)) (now (cpus .exit))) (zone (now (header .entry)) (now (words .entry)) (now (children .entry)) (now (trees .entry)) (now (cpus .entry))) ⌝ }
+    ensures { λ r. ⌜ WentOn step fuel 0 (Record.Get cpu (Taking.Own order)) (wayLeft cpu r) (zone (now (header .entry)) (now (words .exit)) (now (children .exit)) (now (trees .entry)) (now (cpus .exit))) (zone (now (header .entry)) (now (words .entry)) (now (children .entry)) (now (trees .entry)) (now (cpus .entry))) ⌝ }
 {
     if fuel == 0 {
-        return Way::Goes {
-            rec: Record::Get {
-                cpu,
-                stage: Taking::Own(order),
-            },
-            steps: 0,
-        };
+        return stands(At::Own, order, Tree(0), 0, 0, 0);
     }
-    let said = cpu_entries::claim_own(cpus, shape.size, cpu as usize, places::frames_of(order));
-    if let Claimed::Claimed { tree, start } = said {
-        if places::search_in(shape, cpu, Place::Own(tree), start, start) {
-            return child_on(
-                header,
-                words,
-                children,
-                trees,
-                cpus,
-                shape,
-                cpu,
-                order,
-                tree,
-                start,
-                1,
-                fuel,
-            );
+    match cpu_entries::claim_own(cpus, shape.size, cpu as usize, places::frames_of(order)) {
+        Claimed::Absent => stands(At::Try, order, Tree(0), 0, 0, 1),
+        Claimed::Claimed { tree, start } => {
+            if places::search_in(shape, cpu, Place::Own(tree), start, start) {
+                let left = child_on(
+                    header,
+                    words,
+                    children,
+                    trees,
+                    cpus,
+                    shape,
+                    cpu,
+                    order,
+                    tree,
+                    start,
+                    1,
+                    fuel,
+                );
+                let at = left.at;
+                if let At::Last = at {
+                    return last_on(header, words, children, trees, cpus, shape, cpu, left, fuel);
+                }
+                return left;
+            }
+            stands(At::Child, order, tree, start, start, 1)
         }
+        Claimed::Short(tree) => stands(At::TakeCount, order, tree, 0, 0, 1),
+        Claimed::Damaged => stands(At::Own, order, Tree(0), 0, 0, 0),
+        Claimed::NoCpu => stands(At::Own, order, Tree(0), 0, 0, 0),
     }
-    calls::way_of(cpu_stages::own_answer(shape, cpu, order, said), 1)
 }
 
 // Up to `fuel` steps of a get that begins: each as a single step makes it, the checks of the zone and the CPU made once.
@@ -354,7 +472,7 @@ pub fn get_on(
             if shape.cpus <= cpu {
                 return calls::way_of(Answer::BadRecord, 1);
             }
-            own_on(
+            let left = own_on(
                 header,
                 words,
                 children,
@@ -364,7 +482,44 @@ pub fn get_on(
                 cpu,
                 order,
                 fuel,
-            )
+            );
+            way_left(cpu, left)
+        }
+    }
+}
+
+// A get begun and run: its checks, then up to `fuel` steps as above.
+pub fn get_run(
+    header: &[u64],
+    words: &mut [u64],
+    children: &mut [u16],
+    trees: &[u16],
+    cpus: &mut [u64],
+    cpu: u64,
+    order: u64,
+    fuel: u64,
+) -> Way
+    ensures { λ r. ⌜ wentTo step fuel r (zone (now (header .entry)) (now (words .exit)) (now (children .exit)) (now (trees .entry)) (now (cpus .exit))) ≡ follow step fuel 0 (beginGet (zone (now (header .entry)) (now (words .entry)) (now (children .entry)) (now (trees .entry)) (now (cpus .entry))) cpu order .answer) (zone (now (header .entry)) (now (words .entry)) (now (children .entry)) (now (trees .entry)) (now (cpus .entry))) ⌝ }
+{
+    match begins::get_of(header, words, children, trees, cpus, cpu, order) {
+        Getting::Refused(answer) => calls::way_of(answer, 0),
+        Getting::Of {
+            shape,
+            cpu: own,
+            order: known,
+        } => {
+            let left = own_on(
+                header,
+                words,
+                children,
+                trees,
+                cpus,
+                shape,
+                own,
+                known,
+                fuel,
+            );
+            way_left(own, left)
         }
     }
 }

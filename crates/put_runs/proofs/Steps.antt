@@ -5,14 +5,14 @@ use mathlib.Core.List.{List, _++_}
 use mathlib.Core.Logic.{_⊎_, ⊎-elim}
 use Prim.Native.Nat.{ℕ, _+_, _-_, _≤_, _<_}
 use native.Mathlib.Omega.{arith}
-use lib.ListN.{length}
 use denote.Enum.Declared.{tagOf}
-use Rattle.laws.specs.Tests.{passes, Passes, pick}
+use Rattle.laws.specs.Tests.{passes, Passes}
 use Rattle.laws.specs.Tables.{Outcome, outcome}
-use Rattle.laws.proofs.Tests.{pick-no, true-false, all-passed}
+use Rattle.laws.proofs.Tests.{pick-no, all-passed}
 use Rattle.rules.specs.Numbers.{Shape as Rules}
-use Rattle.rules.specs.Blocks.{runSize, sizeOf, firstOf, wordOf, bitOf, treeOfBlock, childOfBlock}
+use Rattle.rules.specs.Blocks.{runSize, sizeOf, firstOf, wordOf, bitOf}
 use Rattle.rules.specs.Ranges.{blockIn, cpuIn, givingIn, stepRange}
+use Rattle.rules.specs.Answers.{number}
 use Rattle.rules.specs.Zone.{Zone}
 use Rattle.rules.specs.Lower.{giveCount, clearHuge}
 use Rattle.rules.specs.Plan.{plain, clears, Made, Tally, cpuEntry, treeEntry, childEntry, wordEntry}
@@ -21,6 +21,7 @@ use Rattle.rules.specs.Step.{act, step, Ran, follow}
 use Rattle.rules.proofs.Gave as Gaves
 use Rattle.lower.specs.Steps.{giveIn, clearHugeIn, clearRunIn}
 use Rattle.lower.proofs.Given as Givens
+use Rattle.entries.specs.Steps.{addCountIn}
 use Rattle.cpu_entries.specs.Steps.{addOwnIn}
 use Rattle.places.specs.Shapes.{shapeOf, blockAtIn, ranged}
 use Rattle.lending.specs.Answers.{givenAnswer}
@@ -28,16 +29,19 @@ use Rattle.cpu_stages.specs.Tables.{inCpus}
 use Rattle.cpu_stages.specs.Answers.{heldAnswer}
 use Rattle.cpu_stages.proofs.Rules.{to-entry-rule}
 use Rattle.tree_stages.specs.Tables.{inTrees}
+use Rattle.tree_stages.specs.Answers.{addedAnswer}
+use Rattle.tree_stages.proofs.Rules.{to-tree-rule}
 use Rattle.child_stages.specs.Tables.{lentChildren, inChildren}
 use Rattle.child_stages.proofs.Rules.{given-there}
 use Rattle.word_stages.specs.Tables.{lentWords, inWords}
 use Rattle.word_stages.proofs.Rules.{cleared-there, run-fits}
 use Rattle.upper.proofs.Arms.{givenBack, put-cpu, put-tree, put-child, put-word}
 use Rattle.upper.proofs.Stepped.{step-refused, step-out, step-acts, cpu-out, stage-out}
-use Rattle.calls.specs.Results.{zone, Result, result, done, Fits, Opened, wayOf, wentTo, WentOn}
+use Rattle.upper.proofs.Runs.{stays, went, goes}
+use Rattle.calls.specs.Results.{zone, Result, result, done, Fits, Opened, wayBy, wayOf, wentTo, WentOn}
 use Rattle.calls.proofs.Opened.{checkedIn, checked-open}
-use Rattle.calls.proofs.Runs.{stepped, way-goes}
-use Rattle.put_runs.specs.Types.{Frame, Huge, Tree, Run, Block, Gave, Giving, Record, CpuEntry, Answer, Given, Held, Shape, BlockAt, Checked, Way}
+use Rattle.put_runs.specs.Types.{Frame, Huge, Tree, Run, Block, Gave, Giving, Record, CpuEntry, Answer, Given, Added, Held, Shape, BlockAt, Checked, Way}
+use Rattle.put_runs.specs.Stands.{stepsToEntry, endsWith}
 
 -- ---- a put's numbers are its block's
 
@@ -80,14 +84,6 @@ module _ {s : Shape} {cpu : ℕ} {h w c t p : List ℕ} (o : Opened s cpu h w c 
       go true b = q (checked-open h w c t p (o .checks) .2, (o .cpu-in, subst Passes (sym (given-range g x)) (all-passed (blockIn g (givenBack x)) b)))
       go false b = record { says = ap F (e ∙ pick-no _ _ _ b) ∙ (k ∙ put-out b .says) }
 
-  pub nowhere : {k : BlockAt} → k ≡ blockAtIn g (givenBack x) → k ≡ BlockAt.Nowhere → Steps z (Record.Put cpu x) (result Answer.BadRecord z)
-  unfolding blockAtIn pick
-  nowhere {k} e q = go (passes (blockIn g (givenBack x))) refl e
-    where
-      go : (b : Bool) → passes (blockIn g (givenBack x)) ≡ b → k ≡ pick b (BlockAt.At (treeOfBlock g (givenBack x)) (childOfBlock g (givenBack x))) BlockAt.Nowhere → Steps z (Record.Put cpu x) (result Answer.BadRecord z)
-      go true b r = true-false (cc)
-      go false b r = put-out b
-
   -- by the table that the step's entry stands in
   module _ {r : Answer} {m : List ℕ} where
     cpu-steps : {j : ℕ} {a : Made CpuEntry} {f : Tree → ℕ → ℕ → Made CpuEntry} → give g cpu x ≡ cpuEntry j a f → outcome r m ≡ ranged g (givenBack x) (inCpus g (give g cpu x)) p
@@ -112,32 +108,31 @@ module _ {s : Shape} {cpu : ℕ} {h w c t p : List ℕ} (o : Opened s cpu h w c 
 
 -- ---- the stages, from what the low level says
 
-module _ {s : Shape} {cpu : ℕ} {h w c t p : List ℕ} (o : Opened s cpu h w c t p) {r : Answer} {m : List ℕ} where
-  pub to-tree-step : {b : Block} → outcome r m ≡ ranged (shapeOf s) b (inTrees (shapeOf s) (give (shapeOf s) cpu (Giving.ToTree b))) t
-      → Steps (zone h w c t p) (Record.Put cpu (Giving.ToTree b)) (result r (zone h w c m p))
+module _ {s : Shape} {cpu : ℕ} {h w c t p : List ℕ} (o : Opened s cpu h w c t p) {r : Answer} {m : List ℕ} {k : BlockAt} {u : Tree} {i : ℕ} where
+  pub to-tree-step : {b : Block} {n : ℕ} {a : Added} → k ≡ blockAtIn (shapeOf s) b → k ≡ BlockAt.At u i → n ≡ sizeOf b → outcome a m ≡ addCountIn (s .size) u n t
+      → r ≡ addedAnswer (Answer.Done (firstOf b)) a → Steps (zone h w c t p) (Record.Put cpu (Giving.ToTree b)) (result r (zone h w c m p))
   unfolding give
-  to-tree-step {b} e = tree-steps o (Giving.ToTree b) refl e
+  to-tree-step {b} {n} e q f d a = tree-steps o (Giving.ToTree b) refl (to-tree-rule s cpu b t u i e q refl n f d a)
 
-  module _ {k : BlockAt} {u : Tree} {i : ℕ} where
-    pub to-entry-step : {b : Block} {n : ℕ} {a : Held} → k ≡ blockAtIn (shapeOf s) b → k ≡ BlockAt.At u i → n ≡ sizeOf b → outcome a m ≡ addOwnIn (s .size) cpu u n p
-        → r ≡ heldAnswer (Answer.Done (firstOf b)) (Answer.UnderWay (Record.Put cpu (Giving.ToTree b))) a → Steps (zone h w c t p) (Record.Put cpu (Giving.ToEntry b)) (result r (zone h w c t m))
-    unfolding give
-    to-entry-step {b} {n} e q f d a = cpu-steps o (Giving.ToEntry b) refl (to-entry-rule s cpu b p u i e q refl n f refl d a)
+  pub to-entry-step : {b : Block} {n : ℕ} {a : Held} → k ≡ blockAtIn (shapeOf s) b → k ≡ BlockAt.At u i → n ≡ sizeOf b → outcome a m ≡ addOwnIn (s .size) cpu u n p
+      → r ≡ heldAnswer (Answer.Done (firstOf b)) (Answer.UnderWay (Record.Put cpu (Giving.ToTree b))) a → Steps (zone h w c t p) (Record.Put cpu (Giving.ToEntry b)) (result r (zone h w c t m))
+  unfolding give
+  to-entry-step {b} {n} e q f d a = cpu-steps o (Giving.ToEntry b) refl (to-entry-rule s cpu b p u i e q refl n f refl d a)
 
-    pub raise-step : {v : Run} {f : Frame} {n : ℕ} {a : Given} → k ≡ blockAtIn (shapeOf s) (Block.Run v f) → k ≡ BlockAt.At u i → n ≡ runSize v → outcome a m ≡ lentChildren (shapeOf s) u Given.NoChild (λ l. giveIn n l i) c
-        → r ≡ givenAnswer (Answer.UnderWay (Record.Put cpu (Giving.ToEntry (Block.Run v f)))) a → Steps (zone h w c t p) (Record.Put cpu (Giving.Raise v f)) (result r (zone h w m t p))
-    unfolding give inChildren
-    raise-step {v} {f} e q n d a = child-steps o (Giving.Raise v f) refl (given-there (shapeOf s) c (Block.Run v f) _ e q _ plain a (giveCount (runSize v)) (rw n at d) refl)
+  pub raise-step : {v : Run} {f : Frame} {n : ℕ} {a : Given} → k ≡ blockAtIn (shapeOf s) (Block.Run v f) → k ≡ BlockAt.At u i → n ≡ runSize v → outcome a m ≡ lentChildren (shapeOf s) u Given.NoChild (λ l. giveIn n l i) c
+      → r ≡ givenAnswer (Answer.UnderWay (Record.Put cpu (Giving.ToEntry (Block.Run v f)))) a → Steps (zone h w c t p) (Record.Put cpu (Giving.Raise v f)) (result r (zone h w m t p))
+  unfolding give inChildren
+  raise-step {v} {f} e q n d a = child-steps o (Giving.Raise v f) refl (given-there (shapeOf s) c (Block.Run v f) _ e q _ plain a (giveCount (runSize v)) (rw n at d) refl)
 
-    pub clear-whole-step : {y : Huge} {a : Given} → k ≡ blockAtIn (shapeOf s) (Block.Whole y) → k ≡ BlockAt.At u i → outcome a m ≡ lentChildren (shapeOf s) u Given.NoChild (λ l. clearHugeIn l i) c
-        → r ≡ givenAnswer (Answer.UnderWay (Record.Put cpu (Giving.ToEntry (Block.Whole y)))) a → Steps (zone h w c t p) (Record.Put cpu (Giving.Clear (Block.Whole y))) (result r (zone h w m t p))
-    unfolding give clear inChildren
-    clear-whole-step {y} e q d a = child-steps o (Giving.Clear (Block.Whole y)) refl (given-there (shapeOf s) c (Block.Whole y) _ e q _ (clears (Block.Whole y)) a clearHuge d refl)
+  pub clear-whole-step : {y : Huge} {a : Given} → k ≡ blockAtIn (shapeOf s) (Block.Whole y) → k ≡ BlockAt.At u i → outcome a m ≡ lentChildren (shapeOf s) u Given.NoChild (λ l. clearHugeIn l i) c
+      → r ≡ givenAnswer (Answer.UnderWay (Record.Put cpu (Giving.ToEntry (Block.Whole y)))) a → Steps (zone h w c t p) (Record.Put cpu (Giving.Clear (Block.Whole y))) (result r (zone h w m t p))
+  unfolding give clear inChildren
+  clear-whole-step {y} e q d a = child-steps o (Giving.Clear (Block.Whole y)) refl (given-there (shapeOf s) c (Block.Whole y) _ e q _ (clears (Block.Whole y)) a clearHuge d refl)
 
-    pub clear-run-step : {v : Run} {f : Frame} {a : Given} → k ≡ blockAtIn (shapeOf s) (Block.Run v f) → k ≡ BlockAt.At u i → outcome a m ≡ lentWords (shapeOf s) u Given.NoChild (λ l. clearRunIn (runSize v) l i (wordOf f) (bitOf f)) w
-        → r ≡ givenAnswer (Answer.UnderWay (Record.Put cpu (Giving.Raise v f))) a → Steps (zone h w c t p) (Record.Put cpu (Giving.Clear (Block.Run v f))) (result r (zone h m c t p))
-    unfolding give clear inWords
-    clear-run-step {v} {f} e q d a = word-steps o (Giving.Clear (Block.Run v f)) refl (cleared-there (shapeOf s) w (Block.Run v f) _ e q _ (clears (Block.Run v f)) a (runSize v) (bitOf f) (omega arith) (run-fits (shapeOf s) v f e q) d refl)
+  pub clear-run-step : {v : Run} {f : Frame} {a : Given} → k ≡ blockAtIn (shapeOf s) (Block.Run v f) → k ≡ BlockAt.At u i → outcome a m ≡ lentWords (shapeOf s) u Given.NoChild (λ l. clearRunIn (runSize v) l i (wordOf f) (bitOf f)) w
+      → r ≡ givenAnswer (Answer.UnderWay (Record.Put cpu (Giving.Raise v f))) a → Steps (zone h w c t p) (Record.Put cpu (Giving.Clear (Block.Run v f))) (result r (zone h m c t p))
+  unfolding give clear inWords
+  clear-run-step {v} {f} e q d a = word-steps o (Giving.Clear (Block.Run v f)) refl (cleared-there (shapeOf s) w (Block.Run v f) _ e q _ (clears (Block.Run v f)) a (runSize v) (bitOf f) (omega arith) (run-fits (shapeOf s) v f e q) d refl)
 
 -- ---- the answer of a count given back, or of a block cleared
 
@@ -148,40 +143,52 @@ NotEntry s = (tagOf Givens.the-type s ≡ 1) ⊎ ((tagOf Givens.the-type s ≡ 2
 abbrev NotGiven : Gave → Type 0
 NotGiven v = (tagOf Gaves.the-type v ≡ 1) ⊎ (tagOf Gaves.the-type v ≡ 2)
 
--- then the answer is its own
-module _ (x y : Answer) where
-  said-same : (s : Given) → NotEntry s → givenAnswer x s ≡ givenAnswer y s
-  said-same (Given.Entry v) k = ⊎-elim (λ e. absurd (omega arith)) (λ q. ⊎-elim (λ e. absurd (omega arith)) (λ e. absurd (omega arith)) q) k
-  said-same Given.NoChild k = refl
-  said-same Given.NoWord k = refl
-  said-same Given.NoBit k = refl
+-- then the answer is a refusal
+module _ (x : Answer) where
+  pub said-refused : (s : Given) → NotEntry s → 2 ≤ number (givenAnswer x s)
+  said-refused (Given.Entry v) k = ⊎-elim (λ e. absurd (omega arith)) (λ q. ⊎-elim (λ e. absurd (omega arith)) (λ e. absurd (omega arith)) q) k
+  said-refused Given.NoChild k = omega arith
+  said-refused Given.NoWord k = omega arith
+  said-refused Given.NoBit k = omega arith
 
-  gave-same : (v : Gave) → NotGiven v → givenAnswer x (Given.Entry v) ≡ givenAnswer y (Given.Entry v)
-  gave-same Gave.Given k = ⊎-elim (λ e. absurd (omega arith)) (λ e. absurd (omega arith)) k
-  gave-same Gave.NotTaken k = refl
-  gave-same Gave.Damaged k = refl
+  gave-is : (v : Gave) → NotGiven v → 2 ≤ number (givenAnswer x (Given.Entry v))
+  gave-is Gave.Given k = ⊎-elim (λ e. absurd (omega arith)) (λ e. absurd (omega arith)) k
+  gave-is Gave.NotTaken k = omega arith
+  gave-is Gave.Damaged k = omega arith
 
-module _ (x : Answer) {r : Answer} {y s : Given} (e : r ≡ givenAnswer Answer.BadRecord y) where
-  pub said-other : NotEntry s → y ≡ s → r ≡ givenAnswer x s
-  said-other k q = e ∙ (ap (givenAnswer Answer.BadRecord) q ∙ said-same Answer.BadRecord x s k)
-
-  pub gave-other : {v : Gave} → s ≡ Given.Entry v → NotGiven v → y ≡ Given.Entry v → r ≡ givenAnswer x s
-  gave-other {v} d k q = e ∙ (ap (givenAnswer Answer.BadRecord) q ∙ (gave-same Answer.BadRecord x v k ∙ ap (givenAnswer x) (sym d)))
+  pub gave-refused : {s : Given} {v : Gave} → s ≡ Given.Entry v → NotGiven v → 2 ≤ number (givenAnswer x s)
+  gave-refused {s} {v} e k = subst (λ y. 2 ≤ number (givenAnswer x y)) (sym e) (gave-is v k)
 
 -- ---- the run goes on
 
-module _ {fuel k : ℕ} {z z′ : Zone} {r : Record} (b : k < fuel) where
-  -- as the answer says
-  pub run-answers : {a : Answer} {y : Way} → Steps z r (result a z′) → y ≡ wayOf a (k + 1) → WentOn step fuel k r y z′ z
-  run-answers {a} e q = ap (λ y. wentTo step fuel y z′) q ∙ (way-goes step fuel (k + 1) a z′ ∙ sym (stepped step fuel k z r b (e .says) refl))
+-- no step is made
+pub run-stands : (fuel : ℕ) (r : Record) (z : Zone) {k n : ℕ} → k ≡ n → WentOn step fuel k r (Way.Goes r n) z z
+unfolding wentTo
+run-stands fuel r z q = ap (λ j. follow step (fuel - j) j (Answer.UnderWay r) z) (sym q)
 
-  -- with the next record
-  pub run-follows : {x : Record} {y : Ran} → Steps z r (result (Answer.UnderWay x) z′) → y ≡ follow step (fuel - (k + 1)) (k + 1) (Answer.UnderWay x) z′ → y ≡ follow step (fuel - k) k (Answer.UnderWay r) z
-  run-follows e d = d ∙ sym (stepped step fuel k z r b (e .says) refl)
+module _ {k : ℕ} {z z′ : Zone} {r : Record} where
+  -- the next step is refused
+  pub run-stays : (fuel : ℕ) (a : Answer) {n : ℕ} → Steps z r (result a z′) → 2 ≤ number a → k ≡ n → WentOn step fuel k r (Way.Goes r n) z′ z
+  run-stays fuel a {n} e q d = subst (λ y. WentOn step fuel k r (Way.Goes r n) y z) (sym (stays fuel k r z (e .says) q)) (run-stands fuel r z d)
 
--- tables of the same lengths are open as well
-pub still-open : {s : Shape} {cpu : ℕ} {h w c t p w′ c′ t′ p′ : List ℕ} → Opened s cpu h w c t p → length w′ ≡ length w → length c′ ≡ length c → length t′ ≡ length t → length p′ ≡ length p → Opened s cpu h w′ c′ t′ p′
-still-open o i j k l = record { checks = rw (i, j, k, l) (o .checks); cpu-in = o .cpu-in }
+  module _ {fuel : ℕ} (b : k < fuel) where
+    -- as the answer says
+    pub run-answers : {a : Answer} {y : Way} → Steps z r (result a z′) → y ≡ wayOf a (k + 1) → WentOn step fuel k r y z′ z
+    run-answers e q = went fuel k r z (e .says) b q
+
+    -- to its end
+    pub run-ends : (x : Block) {n : ℕ} → Steps z r (result (Answer.Done (firstOf x)) z′) → n ≡ k + 1 → WentOn step fuel k r (endsWith x n) z′ z
+    unfolding wayBy
+    run-ends x e q = run-answers e (ap (endsWith x) q)
+
+    -- with the next record
+    pub run-follows : {x : Record} {y : Ran} → Steps z r (result (Answer.UnderWay x) z′) → y ≡ follow step (fuel - (k + 1)) (k + 1) (Answer.UnderWay x) z′ → y ≡ follow step (fuel - k) k (Answer.UnderWay r) z
+    run-follows e d = d ∙ goes fuel k r z (e .says) b refl
+
+-- at most two steps lead to the entry
+pub steps-few : {k : ℕ} (b : Block) → k ≡ stepsToEntry b → k ≤ 2
+steps-few (Block.Run v f) e = omega arith
+steps-few (Block.Whole h) e = omega arith
 
 -- ---- what a put that begins is refused for
 

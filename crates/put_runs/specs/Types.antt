@@ -15,3 +15,5 @@ pub use Rattle.places.specs.declared.Shape.{Shape}
 pub use Rattle.places.specs.declared.BlockAt.{BlockAt}
 pub use Rattle.calls.specs.declared.Checked.{Checked}
 pub use Rattle.calls.specs.declared.Way.{Way}
+pub use Rattle.entries.specs.declared.Added.{Added}
+pub use Rattle.put_runs.specs.declared.At.{At}

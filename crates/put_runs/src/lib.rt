@@ -1,12 +1,17 @@
 // A put from its first stage on, in one call: the clearing store, the child's count, the own entry or the tree.
 // A stage's answer is the one that the rules give it; no record is made between the stages.
 ghost use mathlib.Core.Path.{_≡_};
-ghost use Prim.Native.Nat.{_<_};
-ghost use Rattle.rules.specs.Step.{step};
-ghost use Rattle.calls.specs.Results.{zone, Opened, WentOn};
+ghost use Prim.Native.Nat.{_+_, _<_};
+ghost use Rattle.rules.specs.Begin.{beginPut};
+ghost use Rattle.rules.specs.Step.{step, follow};
+ghost use Rattle.calls.specs.Results.{zone, Opened, wentTo, WentOn};
+ghost use Rattle.put_runs.specs.Stands.{stepsToEntry, endsWith, wayAt};
+use begins::Putting;
 use calls::Checked;
+use calls::Ended;
 use calls::Way;
 use cpu_entries::Held;
+use entries::Added;
 use lower::Given;
 use places::BlockAt;
 use places::Shape;
@@ -23,6 +28,63 @@ const CHILD_FRAMES: u64 = 512;
 
 const WORD_BITS: u64 = 64;
 
+// Where a put stands: before a stage, or at its end, the block counted in the own entry or in its tree. Before a stage that is refused it stands still: a
+// refusal stores nothing, and the single step answers it.
+enum At {
+    Clear,
+    Raise,
+    ToEntry,
+    ToTree,
+    InEntry,
+    InTree,
+}
+
+// The steps that lead to the entry: two for a run, one for a huge frame.
+fn steps_to_entry(block: Block) -> u64
+    ensures { λ r. ⌜ r ≡ stepsToEntry block ⌝ }
+{
+    match block {
+        Block::Run { run: _, first: _ } => 2,
+        Block::Whole(_) => 1,
+    }
+}
+
+fn goes(cpu: u8, stage: Giving, steps: u64) -> Way
+    ensures { λ r. ⌜ r ≡ Way.Goes (Record.Put cpu stage) steps ⌝ }
+{
+    Way::Goes {
+        rec: Record::Put { cpu, stage },
+        steps,
+    }
+}
+
+fn ends(block: Block, steps: u64) -> Way
+    ensures { λ r. ⌜ r ≡ endsWith block steps ⌝ }
+{
+    Way::Ends(Ended {
+        answer: Answer::Done(places::first_of(block)),
+        steps,
+    })
+}
+
+// How the run of a put goes on that stands so.
+fn way_at(cpu: u8, block: Block, at: At) -> Way
+    ensures { λ r. ⌜ r ≡ wayAt cpu block at ⌝ }
+{
+    let entry = steps_to_entry(block);
+    match at {
+        At::Clear => goes(cpu, Giving::Clear(block), 0),
+        At::Raise => match block {
+            Block::Run { run, first } => goes(cpu, Giving::Raise { run, first }, 1),
+            Block::Whole(_) => goes(cpu, Giving::ToEntry(block), 1),
+        },
+        At::ToEntry => goes(cpu, Giving::ToEntry(block), entry),
+        At::ToTree => goes(cpu, Giving::ToTree(block), entry + 1),
+        At::InEntry => ends(block, entry + 1),
+        At::InTree => ends(block, entry + 2),
+    }
+}
+
 // The tree's count.
 fn tree_on(
     header: &[u64],
@@ -35,20 +97,23 @@ fn tree_on(
     block: Block,
     steps: u64,
     fuel: u64,
-) -> Way
-    requires { ⌜ Opened shape cpu (now header) (now words) (now children) (now trees) (now cpus) ⌝ }
-    ensures { λ r. ⌜ WentOn step fuel steps (Record.Put cpu (Giving.ToTree block)) r (zone (now (header .entry)) (now (words .entry)) (now (children .entry)) (now (trees .exit)) (now (cpus .entry))) (zone (now (header .entry)) (now (words .entry)) (now (children .entry)) (now (trees .entry)) (now (cpus .entry))) ⌝ }
+) -> At
+    requires { ⌜ Opened shape cpu (now header) (now words) (now children) (now trees) (now cpus) × (steps ≡ stepsToEntry block + 1) ⌝ }
+    ensures { λ r. ⌜ WentOn step fuel steps (Record.Put cpu (Giving.ToTree block)) (wayAt cpu block r) (zone (now (header .entry)) (now (words .entry)) (now (children .entry)) (now (trees .exit)) (now (cpus .entry))) (zone (now (header .entry)) (now (words .entry)) (now (children .entry)) (now (trees .entry)) (now (cpus .entry))) ⌝ }
 {
     if fuel <= steps {
-        return Way::Goes {
-            rec: Record::Put {
-                cpu,
-                stage: Giving::ToTree(block),
-            },
-            steps,
-        };
+        return At::ToTree;
     }
-    calls::way_of(tree_stages::to_tree(trees, shape, cpu, block), steps + 1)
+    match places::block_at(shape, block) {
+        BlockAt::Nowhere => At::ToTree,
+        BlockAt::At { tree, child: _ } => {
+            match entries::add_count(trees, shape.size, tree, places::block_frames(block)) {
+                Added::Added => At::InTree,
+                Added::Damaged => At::ToTree,
+                Added::NoTree => At::ToTree,
+            }
+        }
+    }
 }
 
 // The own entry, if it holds the block's tree; else the tree.
@@ -63,21 +128,15 @@ fn entry_on(
     block: Block,
     steps: u64,
     fuel: u64,
-) -> Way
-    requires { ⌜ Opened shape cpu (now header) (now words) (now children) (now trees) (now cpus) ⌝ }
-    ensures { λ r. ⌜ WentOn step fuel steps (Record.Put cpu (Giving.ToEntry block)) r (zone (now (header .entry)) (now (words .entry)) (now (children .entry)) (now (trees .exit)) (now (cpus .exit))) (zone (now (header .entry)) (now (words .entry)) (now (children .entry)) (now (trees .entry)) (now (cpus .entry))) ⌝ }
+) -> At
+    requires { ⌜ Opened shape cpu (now header) (now words) (now children) (now trees) (now cpus) × (steps ≡ stepsToEntry block) ⌝ }
+    ensures { λ r. ⌜ WentOn step fuel steps (Record.Put cpu (Giving.ToEntry block)) (wayAt cpu block r) (zone (now (header .entry)) (now (words .entry)) (now (children .entry)) (now (trees .exit)) (now (cpus .exit))) (zone (now (header .entry)) (now (words .entry)) (now (children .entry)) (now (trees .entry)) (now (cpus .entry))) ⌝ }
 {
     if fuel <= steps {
-        return Way::Goes {
-            rec: Record::Put {
-                cpu,
-                stage: Giving::ToEntry(block),
-            },
-            steps,
-        };
+        return At::ToEntry;
     }
     match places::block_at(shape, block) {
-        BlockAt::Nowhere => calls::way_of(Answer::BadRecord, steps + 1),
+        BlockAt::Nowhere => At::ToEntry,
         BlockAt::At { tree, child: _ } => {
             match cpu_entries::add_own(
                 cpus,
@@ -86,7 +145,7 @@ fn entry_on(
                 tree,
                 places::block_frames(block),
             ) {
-                Held::Held => calls::way_of(Answer::Done(places::first_of(block)), steps + 1),
+                Held::Held => At::InEntry,
                 Held::Missed => tree_on(
                     header,
                     words,
@@ -99,8 +158,8 @@ fn entry_on(
                     steps + 1,
                     fuel,
                 ),
-                Held::Damaged => calls::way_of(Answer::Damaged, steps + 1),
-                Held::NoCpu => calls::way_of(Answer::BadRecord, steps + 1),
+                Held::Damaged => At::ToEntry,
+                Held::NoCpu => At::ToEntry,
             }
         }
     }
@@ -111,29 +170,22 @@ fn raise_on(
     header: &[u64],
     words: &[u64],
     children: &mut [u16],
-    trees: &mut [u16],
-    cpus: &mut [u64],
+    trees: &[u16],
+    cpus: &[u64],
     shape: Shape,
     cpu: u8,
     run: Run,
     first: Frame,
-    steps: u64,
     fuel: u64,
-) -> Way
+) -> At
     requires { ⌜ Opened shape cpu (now header) (now words) (now children) (now trees) (now cpus) ⌝ }
-    ensures { λ r. ⌜ WentOn step fuel steps (Record.Put cpu (Giving.Raise run first)) r (zone (now (header .entry)) (now (words .entry)) (now (children .exit)) (now (trees .exit)) (now (cpus .exit))) (zone (now (header .entry)) (now (words .entry)) (now (children .entry)) (now (trees .entry)) (now (cpus .entry))) ⌝ }
+    ensures { λ r. ⌜ WentOn step fuel 1 (Record.Put cpu (Giving.Raise run first)) (wayAt cpu (Block.Run run first) r) (zone (now (header .entry)) (now (words .entry)) (now (children .exit)) (now (trees .entry)) (now (cpus .entry))) (zone (now (header .entry)) (now (words .entry)) (now (children .entry)) (now (trees .entry)) (now (cpus .entry))) ⌝ }
 {
-    if fuel <= steps {
-        return Way::Goes {
-            rec: Record::Put {
-                cpu,
-                stage: Giving::Raise { run, first },
-            },
-            steps,
-        };
+    if fuel <= 1 {
+        return At::Raise;
     }
     match places::block_at(shape, Block::Run { run, first }) {
-        BlockAt::Nowhere => calls::way_of(Answer::BadRecord, steps + 1),
+        BlockAt::Nowhere => At::Raise,
         BlockAt::At { tree, child } => {
             let said = child_stages::give_count(
                 children,
@@ -144,21 +196,10 @@ fn raise_on(
             );
             if let Given::Entry(gave) = said {
                 if let Gave::Given = gave {
-                    return entry_on(
-                        header,
-                        words,
-                        children,
-                        trees,
-                        cpus,
-                        shape,
-                        cpu,
-                        Block::Run { run, first },
-                        steps + 1,
-                        fuel,
-                    );
+                    return At::ToEntry;
                 }
             }
-            calls::way_of(lending::given_answer(Answer::BadRecord, said), steps + 1)
+            At::Raise
         }
     }
 }
@@ -168,19 +209,19 @@ fn clear_on(
     header: &[u64],
     words: &mut [u64],
     children: &mut [u16],
-    trees: &mut [u16],
-    cpus: &mut [u64],
+    trees: &[u16],
+    cpus: &[u64],
     shape: Shape,
     cpu: u8,
     run: Run,
     first: Frame,
     fuel: u64,
-) -> Way
+) -> At
     requires { ⌜ Opened shape cpu (now header) (now words) (now children) (now trees) (now cpus) × (0 < fuel) ⌝ }
-    ensures { λ r. ⌜ WentOn step fuel 0 (Record.Put cpu (Giving.Clear (Block.Run run first))) r (zone (now (header .entry)) (now (words .exit)) (now (children .exit)) (now (trees .exit)) (now (cpus .exit))) (zone (now (header .entry)) (now (words .entry)) (now (children .entry)) (now (trees .entry)) (now (cpus .entry))) ⌝ }
+    ensures { λ r. ⌜ WentOn step fuel 0 (Record.Put cpu (Giving.Clear (Block.Run run first))) (wayAt cpu (Block.Run run first) r) (zone (now (header .entry)) (now (words .exit)) (now (children .exit)) (now (trees .entry)) (now (cpus .entry))) (zone (now (header .entry)) (now (words .entry)) (now (children .entry)) (now (trees .entry)) (now (cpus .entry))) ⌝ }
 {
     match places::block_at(shape, Block::Run { run, first }) {
-        BlockAt::Nowhere => calls::way_of(Answer::BadRecord, 1),
+        BlockAt::Nowhere => At::Clear,
         BlockAt::At { tree, child } => {
             let word = (first.0 % CHILD_FRAMES / WORD_BITS) as usize;
             let bit = (first.0 % WORD_BITS) as u32;
@@ -197,12 +238,11 @@ fn clear_on(
                         cpu,
                         run,
                         first,
-                        1,
                         fuel,
                     );
                 }
             }
-            calls::way_of(lending::given_answer(Answer::BadRecord, said), 1)
+            At::Clear
         }
     }
 }
@@ -212,39 +252,116 @@ fn whole_on(
     header: &[u64],
     words: &[u64],
     children: &mut [u16],
-    trees: &mut [u16],
-    cpus: &mut [u64],
+    trees: &[u16],
+    cpus: &[u64],
     shape: Shape,
     cpu: u8,
     huge: Huge,
     fuel: u64,
-) -> Way
+) -> At
     requires { ⌜ Opened shape cpu (now header) (now words) (now children) (now trees) (now cpus) × (0 < fuel) ⌝ }
-    ensures { λ r. ⌜ WentOn step fuel 0 (Record.Put cpu (Giving.Clear (Block.Whole huge))) r (zone (now (header .entry)) (now (words .entry)) (now (children .exit)) (now (trees .exit)) (now (cpus .exit))) (zone (now (header .entry)) (now (words .entry)) (now (children .entry)) (now (trees .entry)) (now (cpus .entry))) ⌝ }
+    ensures { λ r. ⌜ WentOn step fuel 0 (Record.Put cpu (Giving.Clear (Block.Whole huge))) (wayAt cpu (Block.Whole huge) r) (zone (now (header .entry)) (now (words .entry)) (now (children .exit)) (now (trees .entry)) (now (cpus .entry))) (zone (now (header .entry)) (now (words .entry)) (now (children .entry)) (now (trees .entry)) (now (cpus .entry))) ⌝ }
 {
     match places::block_at(shape, Block::Whole(huge)) {
-        BlockAt::Nowhere => calls::way_of(Answer::BadRecord, 1),
+        BlockAt::Nowhere => At::Clear,
         BlockAt::At { tree, child } => {
             let said = child_stages::clear_huge(children, shape, tree, child);
             if let Given::Entry(gave) = said {
                 if let Gave::Given = gave {
-                    return entry_on(
-                        header,
-                        words,
-                        children,
-                        trees,
-                        cpus,
-                        shape,
-                        cpu,
-                        Block::Whole(huge),
-                        1,
-                        fuel,
-                    );
+                    return At::ToEntry;
                 }
             }
-            calls::way_of(lending::given_answer(Answer::BadRecord, said), 1)
+            At::Clear
         }
     }
+}
+
+// The steps before the entry's: the clearing store, and a run's count.
+fn cleared_on(
+    header: &[u64],
+    words: &mut [u64],
+    children: &mut [u16],
+    trees: &[u16],
+    cpus: &[u64],
+    shape: Shape,
+    cpu: u8,
+    block: Block,
+    fuel: u64,
+) -> At
+    requires { ⌜ Opened shape cpu (now header) (now words) (now children) (now trees) (now cpus) ⌝ }
+    ensures { λ r. ⌜ WentOn step fuel 0 (Record.Put cpu (Giving.Clear block)) (wayAt cpu block r) (zone (now (header .entry)) (now (words .exit)) (now (children .exit)) (now (trees .entry)) (now (cpus .entry))) (zone (now (header .entry)) (now (words .entry)) (now (children .entry)) (now (trees .entry)) (now (cpus .entry))) ⌝ }
+{
+    if fuel == 0 {
+        return At::Clear;
+    }
+    match block {
+        Block::Run { run, first } => clear_on(
+            header,
+            words,
+            children,
+            trees,
+            cpus,
+            shape,
+            cpu,
+            run,
+            first,
+            fuel,
+        ),
+        Block::Whole(huge) => whole_on(
+            header,
+            words,
+            children,
+            trees,
+            cpus,
+            shape,
+            cpu,
+            huge,
+            fuel,
+        ),
+    }
+}
+
+// A put from its clearing store on.
+fn block_on(
+    header: &[u64],
+    words: &mut [u64],
+    children: &mut [u16],
+    trees: &mut [u16],
+    cpus: &mut [u64],
+    shape: Shape,
+    cpu: u8,
+    block: Block,
+    fuel: u64,
+) -> At
+    requires { ⌜ Opened shape cpu (now header) (now words) (now children) (now trees) (now cpus) ⌝ }
+    ensures { λ r. ⌜ WentOn step fuel 0 (Record.Put cpu (Giving.Clear block)) (wayAt cpu block r) (zone (now (header .entry)) (now (words .exit)) (now (children .exit)) (now (trees .exit)) (now (cpus .exit))) (zone (now (header .entry)) (now (words .entry)) (now (children .entry)) (now (trees .entry)) (now (cpus .entry))) ⌝ }
+{
+    let at = cleared_on(
+        header,
+        words,
+        children,
+        trees,
+        cpus,
+        shape,
+        cpu,
+        block,
+        fuel,
+    );
+    if let At::ToEntry = at {
+        return entry_on(
+            header,
+            words,
+            children,
+            trees,
+            cpus,
+            shape,
+            cpu,
+            block,
+            steps_to_entry(block),
+            fuel,
+        );
+    }
+    at
 }
 
 // Up to `fuel` steps of a put that begins: each as a single step makes it, the checks of the zone and the CPU made once.
@@ -273,31 +390,55 @@ pub fn put_on(
             if shape.cpus <= cpu {
                 return calls::way_of(Answer::BadRecord, 1);
             }
-            match block {
-                Block::Run { run, first } => clear_on(
-                    header,
-                    words,
-                    children,
-                    trees,
-                    cpus,
-                    shape,
-                    cpu,
-                    run,
-                    first,
-                    fuel,
-                ),
-                Block::Whole(huge) => whole_on(
-                    header,
-                    words,
-                    children,
-                    trees,
-                    cpus,
-                    shape,
-                    cpu,
-                    huge,
-                    fuel,
-                ),
-            }
+            let at = block_on(
+                header,
+                words,
+                children,
+                trees,
+                cpus,
+                shape,
+                cpu,
+                block,
+                fuel,
+            );
+            way_at(cpu, block, at)
+        }
+    }
+}
+
+// A put begun and run: its checks, then up to `fuel` steps as above.
+pub fn put_run(
+    header: &[u64],
+    words: &mut [u64],
+    children: &mut [u16],
+    trees: &mut [u16],
+    cpus: &mut [u64],
+    cpu: u64,
+    frame: Frame,
+    order: u64,
+    fuel: u64,
+) -> Way
+    ensures { λ r. ⌜ wentTo step fuel r (zone (now (header .entry)) (now (words .exit)) (now (children .exit)) (now (trees .exit)) (now (cpus .exit))) ≡ follow step fuel 0 (beginPut (zone (now (header .entry)) (now (words .entry)) (now (children .entry)) (now (trees .entry)) (now (cpus .entry))) cpu frame order .answer) (zone (now (header .entry)) (now (words .entry)) (now (children .entry)) (now (trees .entry)) (now (cpus .entry))) ⌝ }
+{
+    match begins::put_of(header, words, children, trees, cpus, cpu, frame, order) {
+        Putting::Refused(answer) => calls::way_of(answer, 0),
+        Putting::Of {
+            shape,
+            cpu: own,
+            block,
+        } => {
+            let at = block_on(
+                header,
+                words,
+                children,
+                trees,
+                cpus,
+                shape,
+                own,
+                block,
+                fuel,
+            );
+            way_at(own, block, at)
         }
     }
 }

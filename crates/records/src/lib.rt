@@ -747,15 +747,16 @@ fn again(words: Words) -> Words
 }
 
 // The record that two words are the encoding of. Words that are no record's are read as the finished one, which every step refuses with 11.
-pub fn decode(words: Words) -> Record
-    ensures { λ r. ⌜ r ≡ decode words ⌝ }
+pub fn decode(first: u64, second: u64) -> Record
+    ensures { λ r. ⌜ r ≡ decode (record { first = first; second = second }) ⌝ }
 {
+    let words = Words { first, second };
     let rec = read(words);
     let made = again(words);
-    if made.first != words.first {
+    if made.first != first {
         return Record::Finished;
     }
-    if made.second != words.second {
+    if made.second != second {
         return Record::Finished;
     }
     rec

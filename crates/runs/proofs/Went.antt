@@ -28,14 +28,16 @@ module _ (fuel : ℕ) (z : Zone) {r x : Record} (e : r ≡ x) where
   unfolding wentTo
   left-as = rw e refl
 
-module _ (fuel : ℕ) (y : Way) (z′ z : Zone) (r : Record) (w : WentOn step fuel 0 r y z′ z) where
-  begun : wentTo step fuel y z′ ≡ runs fuel z r
-  begun = rw sub-zero at w
-
-  pub went-ended : {e : Ended} → y ≡ Way.Ends e → ranTo e z′ ≡ runs fuel z r
+-- the end of a way
+module _ (fuel : ℕ) (z : Zone) {y : Way} where
+  pub way-ended : {e : Ended} → y ≡ Way.Ends e → ranTo e z ≡ wentTo step fuel y z
   unfolding wentTo
-  went-ended q = rw q at begun
+  way-ended q = rw q refl
 
-  pub went-on : {x : Record} {k : ℕ} {o : Ran} → y ≡ Way.Goes x k → o ≡ follow step (fuel - k) k (Answer.UnderWay x) z′ → o ≡ runs fuel z r
+  pub way-stepped : {r : Record} {k : ℕ} {o : Ran} → y ≡ Way.Goes r k → o ≡ follow step (fuel - k) k (Answer.UnderWay r) z → o ≡ wentTo step fuel y z
   unfolding wentTo
-  went-on q s = s ∙ (rw q at begun)
+  way-stepped q s = rw q s
+
+-- a run from its first step on
+pub from-none : (fuel : ℕ) (y : Way) (z′ z : Zone) (r : Record) {o : Ran} → o ≡ wentTo step fuel y z′ → WentOn step fuel 0 r y z′ z → o ≡ runs fuel z r
+from-none fuel y z′ z r q w = q ∙ (rw sub-zero at w)

@@ -11,8 +11,8 @@ use rules::Giving;
 use rules::Record;
 use rules::Taking;
 
-// The steps that are left after `made` of `fuel`.
-fn step_on(
+// The steps that are left after `made` of `fuel`, one by one.
+pub fn step_on(
     header: &[u64],
     words: &mut [u64],
     children: &mut [u16],
@@ -45,7 +45,7 @@ fn step_on(
 }
 
 // A first stage goes on at once; every other record is left to the steps.
-fn way(
+fn first_way(
     header: &[u64],
     words: &mut [u64],
     children: &mut [u16],
@@ -88,7 +88,7 @@ pub fn run(
 ) -> Ended
     ensures { λ r. ⌜ ranTo r (zone (now (header .entry)) (now (words .exit)) (now (children .exit)) (now (trees .exit)) (now (cpus .exit))) ≡ runs fuel (zone (now (header .entry)) (now (words .entry)) (now (children .entry)) (now (trees .entry)) (now (cpus .entry))) rec ⌝ }
 {
-    match way(header, words, children, trees, cpus, rec, fuel) {
+    match first_way(header, words, children, trees, cpus, rec, fuel) {
         Way::Ends(ended) => ended,
         Way::Goes { rec: next, steps } => step_on(
             header,

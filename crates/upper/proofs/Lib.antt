@@ -1,3 +1,4 @@
 pub mod Carried
 pub mod Arms
 pub mod Stepped
+pub mod Runs

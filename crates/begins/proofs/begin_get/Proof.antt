@@ -1,58 +1,22 @@
-use mathlib.Core.Path.{sym, _∙_}
 use borrow.Author.Needs.{needs}
-use Rattle.begins.proofs.Begun.{get-refused, get-bad-cpu, get-bad-order, get-begun}
 use Rattle.begins.proofs.begin_get.Statement.{statement}
 use Rattle.begins.proofs.begin_get.Tie as tie
 
-check-requires : tie.Need-check-requires
-check-requires c κs = search needs
+get-of-requires : tie.Need-get-of-requires
+get-of-requires c κs = search needs
 
 enum-known-answer : tie.Need-enum-known-answer
 enum-known-answer c = search needs
 
-enum-known-shape : tie.Need-enum-known-shape
-enum-known-shape c = search needs
-
-cast-if1 : tie.Need-cast-if1
-cast-if1 c = search needs
+enum-known-own : tie.Need-enum-known-own
+enum-known-own c = search needs
 
 returns : tie.Need-returns
-returns c = get-bad-cpu _ _ _ _ _ _ _ (sym (c .before .before .before .before .before .check .ensures) ∙ c .before .before .before .shape .given .1) (c .if1 .taken)
-
-order-at-requires : tie.Need-order-at-requires
-order-at-requires c κs = search needs
-
-enum-told : tie.Need-enum-told
-enum-told c = search needs
-
-enum-known-known : tie.Need-enum-known-known
-enum-known-known c = search needs
-
-cast-t21 : tie.Need-cast-t21
-cast-t21 c = search needs
+returns c = rw (c .before .answer .given .1) at (c .before .before .before .get-of .ensures .come)
 
 returns-2 : tie.Need-returns-2
-returns-2 c = get-refused _ _ _ _ _ _ _ (sym (c .before .before .before .check .ensures) ∙ c .before .answer .given .1)
-
-returns-3 : tie.Need-returns-3
-returns-3 c = get-bad-order _ _ _ _ _ _ _ (sym (c .before .before .before .before .before .before .before .before .check .ensures) ∙ c .before .before .before .before .before .before .shape .given .1) (c .before .before .before .if1 .left) (sym (c .before .before .order-at .ensures) ∙ c .enum-told .given .1)
-
-returns-4 : tie.Need-returns-4
-returns-4 c = get-begun _ _ _ _ _ _ _ (sym (c .before .before .before .before .before .before .before .before .before .check .ensures) ∙ c .before .before .before .before .before .before .before .shape .given .1) (c .before .before .before .before .if1 .left) (sym (c .before .before .before .order-at .ensures) ∙ c .before .known .given .1)
+returns-2 c = (rw (c .before .own .given .1) at (c .before .before .before .get-of .ensures .come)) .1
 
 pub begin-get-spec : {M : Type 1} → statement M
 begin-get-spec =
-    tie.close
-    (tie.spec
-    check-requires
-    enum-known-answer
-    enum-known-shape
-    cast-if1
-    returns
-    order-at-requires
-    enum-told
-    enum-known-known
-    cast-t21
-    returns-2
-    returns-3
-    returns-4)
+    tie.close (tie.spec get-of-requires enum-known-answer enum-known-own returns returns-2)

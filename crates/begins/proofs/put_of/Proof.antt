@@ -1,48 +1,78 @@
-use native.Mathlib.Omega.{arith}
-use Rattle.rules.proofs.Sizes.{size-some}
-use Rattle.begins.proofs.Begun.{put-misaligned, put-run, put-nine}
+use mathlib.Core.Path.{sym, _∙_}
+use Rattle.begins.proofs.Begun.{put-refused, put-bad-cpu, put-bad-order, put-bad-frame, put-at}
 use borrow.Author.Needs.{needs}
 use Rattle.begins.proofs.put_of.Statement.{statement}
 use Rattle.begins.proofs.put_of.Tie as tie
-use Rattle.places.proofs.frames_of.Reads as frames-of-reads
 
-frames-of-requires : tie.Need-frames-of-requires
-frames-of-requires c κs = search needs
+check-requires : tie.Need-check-requires
+check-requires c κs = search needs
+
+enum-known-answer : tie.Need-enum-known-answer
+enum-known-answer c = search needs
+
+enum-known-shape : tie.Need-enum-known-shape
+enum-known-shape c = search needs
 
 cast-if1 : tie.Need-cast-if1
 cast-if1 c = search needs
 
-rem-if1 : tie.Need-rem-if1
-rem-if1 c = omega (arith, c .before .frames-of .ensures, size-some (c .before .before .args .order))
-
 returns : tie.Need-returns
-returns c = put-misaligned _ _ _ (c .before .before .frames-of .ensures) (c .if1 .taken)
+returns c = record { come = put-bad-cpu _ _ _ _ _ _ _ (sym (c .before .before .before .before .before .check .ensures) ∙ c .before .before .before .shape .given .1) _ (c .if1 .taken) }
 
-enum-known-order : tie.Need-enum-known-order
-enum-known-order c = search needs
+order-at-requires : tie.Need-order-at-requires
+order-at-requires c κs = search needs
 
 enum-told : tie.Need-enum-told
 enum-told c = search needs
 
-cast-t14 : tie.Need-cast-t14
-cast-t14 c = search needs
+enum-known-known : tie.Need-enum-known-known
+enum-known-known c = search needs
+
+huge-frames-requires : tie.Need-huge-frames-requires
+huge-frames-requires c κs = search needs
+
+cast-if2 : tie.Need-cast-if2
+cast-if2 c = search needs
+
+mul-if2 : tie.Need-mul-if2
+mul-if2 c = search needs
 
 returns-2 : tie.Need-returns-2
-returns-2 c = put-run _ _ _ (c .before .before .before .before .before .frames-of .ensures) (c .before .before .before .if1 .left) (c .before .order .given .1)
+returns-2 c = record { come = put-bad-frame _ _ _ _ _ _ _ (sym (c .before .before .before .before .before .before .before .before .before .before .before .before .check .ensures) ∙ c .before .before .before .before .before .before .before .before .before .before .shape .given .1) _ (c .before .before .before .before .before .before .before .if1 .left) (sym (c .before .before .before .before .before .before .order-at .ensures) ∙ c .before .before .before .before .known .given .1) (c .before .before .huge-frames .ensures) (c .if2 .taken) }
+
+cast-block-of : tie.Need-cast-block-of
+cast-block-of c = search needs
+
+block-of-requires : tie.Need-block-of-requires
+block-of-requires c κs = search needs
 
 returns-3 : tie.Need-returns-3
-returns-3 c = put-nine _ _ _ (c .before .before .before .before .before .frames-of .ensures) (c .before .before .before .if1 .left) (c .before .enum-told .given .1)
+returns-3 c = record { come = put-refused _ _ _ _ _ _ _ _ (sym (c .before .before .before .check .ensures) ∙ c .before .answer .given .1) }
+
+returns-4 : tie.Need-returns-4
+returns-4 c = record { come = put-bad-order _ _ _ _ _ _ _ (sym (c .before .before .before .before .before .before .before .before .check .ensures) ∙ c .before .before .before .before .before .before .shape .given .1) _ (c .before .before .before .if1 .left) (sym (c .before .before .order-at .ensures) ∙ c .enum-told .given .1) }
+
+returns-5 : tie.Need-returns-5
+returns-5 c = put-at _ _ _ _ _ _ _ (sym (c .before .before .before .before .before .before .before .before .before .before .before .before .before .check .ensures) ∙ c .before .before .before .before .before .before .before .before .before .before .before .shape .given .1) _ (c .before .before .before .before .before .before .before .before .if1 .left) (sym (c .before .before .before .before .before .before .before .order-at .ensures) ∙ c .before .before .before .before .before .known .given .1) (c .before .before .before .huge-frames .ensures) (c .before .if2 .left) (c .block-of .ensures)
 
 pub put-of-spec : {M : Type 1} → statement M
 put-of-spec =
     tie.close
     (tie.spec
-    frames-of-requires
+    check-requires
+    enum-known-answer
+    enum-known-shape
     cast-if1
-    rem-if1
     returns
-    enum-known-order
+    order-at-requires
     enum-told
-    cast-t14
+    enum-known-known
+    huge-frames-requires
+    cast-if2
+    mul-if2
     returns-2
-    returns-3)
+    cast-block-of
+    block-of-requires
+    returns-3
+    returns-4
+    returns-5)

@@ -1,4 +1,4 @@
-use Rattle.capi.proofs.Calls.{laid-next, laid-last, left-alone}
+use Rattle.capi.proofs.Calls.{back-next, back-last}
 use borrow.Author.Needs.{needs}
 use Rattle.capi.proofs.hand_back.Statement.{statement}
 use Rattle.capi.proofs.hand_back.Tie as tie
@@ -9,38 +9,26 @@ next-of-requires c κs = search needs
 enum-known-next : tie.Need-enum-known-next
 enum-known-next c = search needs
 
-encode-requires : tie.Need-encode-requires
-encode-requires c κs = search needs
-
-slice-write-rec : tie.Need-slice-write-rec
-slice-write-rec c = search needs
-
-slice-write-rec-2 : tie.Need-slice-write-rec-2
-slice-write-rec-2 c = search needs
+lay-requires : tie.Need-lay-requires
+lay-requires c κs = search needs
 
 enum-told : tie.Need-enum-told
 enum-told c = search needs
 
-slice-write-rec-3 : tie.Need-slice-write-rec-3
-slice-write-rec-3 c = search needs
-
-slice-write-rec-4 : tie.Need-slice-write-rec-4
-slice-write-rec-4 c = search needs
+lay-finished-requires : tie.Need-lay-finished-requires
+lay-finished-requires c κs = search needs
 
 same-length : tie.Need-same-length
 same-length c = search needs
 
 returns : tie.Need-returns
-returns c = laid-next _ _ (c .before .before .before .before .before .if1 .taken) (c .before .before .before .before .next-of .ensures) (c .before .before .next .given .1) (c .encode .ensures .0)
+returns c = back-next (c .before .before .before .before .before .before .before .before .before .args .answer) _ (c .before .before .before .before .before .before .before .next-of .ensures) (c .before .before .before .before .before .next .given .1) (c .before .before .lay .ensures)
 
 same-length-2 : tie.Need-same-length-2
 same-length-2 c = search needs
 
 returns-2 : tie.Need-returns-2
-returns-2 c = laid-last _ _ (c .before .before .before .if1 .taken) (c .before .before .next-of .ensures) (c .enum-told .given .1)
-
-returns-3 : tie.Need-returns-3
-returns-3 c = left-alone _ _ (c .if1 .left)
+returns-2 c = back-last (c .before .before .before .before .before .before .before .before .args .answer) _ (c .before .before .before .before .before .before .next-of .ensures) (c .before .before .before .before .enum-told .given .1) (c .before .before .lay-finished .ensures)
 
 pub hand-back-spec : {M : Type 1} → statement M
 hand-back-spec =
@@ -48,14 +36,10 @@ hand-back-spec =
     (tie.spec
     next-of-requires
     enum-known-next
-    encode-requires
-    slice-write-rec
-    slice-write-rec-2
+    lay-requires
     enum-told
-    slice-write-rec-3
-    slice-write-rec-4
+    lay-finished-requires
     same-length
     returns
     same-length-2
-    returns-2
-    returns-3)
+    returns-2)

@@ -17,11 +17,11 @@ same-length c = search needs
 returns : tie.Need-returns
 returns c = followed-not _ _ _ _ (c .before .before .before .before .before .if1 .taken) (c .before .before .before .no-record .ensures) (c .before .before .told-run .ensures)
 
-slice-read-t18 : tie.Need-slice-read-t18
-slice-read-t18 c = search needs
+slice-read-decode : tie.Need-slice-read-decode
+slice-read-decode c = search needs
 
-slice-read-t20 : tie.Need-slice-read-t20
-slice-read-t20 c = search needs
+slice-read-decode-2 : tie.Need-slice-read-decode-2
+slice-read-decode-2 c = search needs
 
 decode-requires : tie.Need-decode-requires
 decode-requires c κs = search needs
@@ -58,8 +58,8 @@ lovarntek-run-spec =
     told-run-requires
     same-length
     returns
-    slice-read-t18
-    slice-read-t20
+    slice-read-decode
+    slice-read-decode-2
     decode-requires
     run-requires
     told-run-requires-2

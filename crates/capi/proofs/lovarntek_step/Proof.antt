@@ -13,11 +13,11 @@ told-requires c κs = search needs
 returns : tie.Need-returns
 returns c = made-not _ _ _ _ (c .before .before .if1 .taken) (c .before .no-record .ensures) (c .told .ensures)
 
-slice-read-t14 : tie.Need-slice-read-t14
-slice-read-t14 c = search needs
+slice-read-decode : tie.Need-slice-read-decode
+slice-read-decode c = search needs
 
-slice-read-t16 : tie.Need-slice-read-t16
-slice-read-t16 c = search needs
+slice-read-decode-2 : tie.Need-slice-read-decode-2
+slice-read-decode-2 c = search needs
 
 decode-requires : tie.Need-decode-requires
 decode-requires c κs = search needs
@@ -56,8 +56,8 @@ lovarntek-step-spec =
     no-record-requires
     told-requires
     returns
-    slice-read-t14
-    slice-read-t16
+    slice-read-decode
+    slice-read-decode-2
     decode-requires
     step-requires
     hand-back-requires

@@ -1,13 +1,25 @@
-use Rattle.capi.proofs.Calls.{same-run}
+use mathlib.Core.Path.{ap, _∙_}
+use mathlib.Core.Logic.{⊎-elim}
+use lib.ListN.{length}
+use Rattle.capi.proofs.Calls.{laid-length, back-next, back-last, same-run}
 use borrow.Author.Needs.{needs}
 use Rattle.capi.proofs.told_run.Statement.{statement}
 use Rattle.capi.proofs.told_run.Tie as tie
-use Rattle.capi.proofs.hand_back.Reads as hand-back-reads
-use Rattle.records.proofs.frame_of.Reads as frame-of-reads
-use Rattle.records.proofs.number_of.Reads as number-of-reads
 
-hand-back-requires : tie.Need-hand-back-requires
-hand-back-requires c κs = search needs
+next-of-requires : tie.Need-next-of-requires
+next-of-requires c κs = search needs
+
+enum-known-next : tie.Need-enum-known-next
+enum-known-next c = search needs
+
+lay-requires : tie.Need-lay-requires
+lay-requires c κs = search needs
+
+enum-told : tie.Need-enum-told
+enum-told c = search needs
+
+lay-finished-requires : tie.Need-lay-finished-requires
+lay-finished-requires c κs = search needs
 
 number-of-requires : tie.Need-number-of-requires
 number-of-requires c κs = search needs
@@ -16,12 +28,21 @@ frame-of-requires : tie.Need-frame-of-requires
 frame-of-requires c κs = search needs
 
 same-length : tie.Need-same-length
-same-length c = search needs
+same-length c = ⊎-elim (λ w. ap length (w .7 ∙ w .4 .ensures) ∙ laid-length _ _) (λ w. ap length (w .6 ∙ w .3 .ensures) ∙ laid-length _ _) (c .before .before .match .came)
 
 returns : tie.Need-returns
-returns c = same-run (c .before .before .before .before .before .before .before .args .answer) (c .before .number-of .ensures) (c .frame-of .ensures) (c .before .before .before .before .hand-back .ensures)
+returns c = same-run (c .before .before .before .before .before .args .answer) (c .before .number-of .ensures) (c .frame-of .ensures) (⊎-elim (λ w. back-next (c .before .before .before .before .before .args .answer) _ (c .before .before .before .next-of .ensures) (w .1 .given .1) (w .7 ∙ w .4 .ensures)) (λ w. back-last (c .before .before .before .before .before .args .answer) _ (c .before .before .before .next-of .ensures) (w .1 .given .1) (w .6 ∙ w .3 .ensures)) (c .before .before .match .came))
 
 pub told-run-spec : {M : Type 1} → statement M
 told-run-spec =
     tie.close
-    (tie.spec hand-back-requires number-of-requires frame-of-requires same-length returns)
+    (tie.spec
+    next-of-requires
+    enum-known-next
+    lay-requires
+    enum-told
+    lay-finished-requires
+    number-of-requires
+    frame-of-requires
+    same-length
+    returns)

@@ -27,17 +27,11 @@ way-of-requires-2 c κs = search needs
 returns-2 : tie.Need-returns-2
 returns-2 c = run-answers (search needs) (no-cpu (sym (c .before .before .before .before .before .before .check .ensures) ∙ c .before .before .before .before .shape .given .1) (c .before .if2 .taken)) (c .way-of2 .ensures)
 
-enum-known-block : tie.Need-enum-known-block
-enum-known-block c = search needs
+block-on-requires : tie.Need-block-on-requires
+block-on-requires c κs = record { checks = sym (c .before .before .before .before .before .before .before .before .before .check .ensures) ∙ c .before .before .before .before .before .before .before .shape .given .1; cpu-in = c .before .before .before .before .if2 .left }
 
-clear-on-requires : tie.Need-clear-on-requires
-clear-on-requires c κs = (record { checks = sym (c .before .before .before .before .before .before .before .before .before .before .before .before .check .ensures) ∙ c .before .before .before .before .before .before .before .before .before .before .shape .given .1; cpu-in = c .before .before .before .before .before .before .before .if2 .left }, search needs)
-
-enum-known-block-2 : tie.Need-enum-known-block-2
-enum-known-block-2 c = search needs
-
-whole-on-requires : tie.Need-whole-on-requires
-whole-on-requires c κs = (record { checks = sym (c .before .before .before .before .before .before .before .before .before .before .before .before .check .ensures) ∙ c .before .before .before .before .before .before .before .before .before .before .shape .given .1; cpu-in = c .before .before .before .before .before .before .before .if2 .left }, search needs)
+way-at-requires : tie.Need-way-at-requires
+way-at-requires c κs = search needs
 
 returns-3 : tie.Need-returns-3
 returns-3 c = run-answers (search needs) (refused (sym (c .before .before .before .before .check .ensures) ∙ c .before .before .answer .given .1)) (c .way-of .ensures)
@@ -55,22 +49,7 @@ same-length-4 : tie.Need-same-length-4
 same-length-4 c = search needs
 
 returns-4 : tie.Need-returns-4
-returns-4 c = rw (c .before .before .before .before .before .before .before .before .before .before .before .before .before .before .block .given .1) (c .before .before .before .before .before .before .before .before .clear-on .ensures)
-
-same-length-5 : tie.Need-same-length-5
-same-length-5 c = search needs
-
-same-length-6 : tie.Need-same-length-6
-same-length-6 c = search needs
-
-same-length-7 : tie.Need-same-length-7
-same-length-7 c = search needs
-
-same-length-8 : tie.Need-same-length-8
-same-length-8 c = search needs
-
-returns-5 : tie.Need-returns-5
-returns-5 c = rw (c .before .before .before .before .before .before .before .before .before .before .before .before .block2 .given .1) (c .before .before .before .before .before .before .whole-on .ensures)
+returns-4 c = rw (c .way-at .ensures) (c .before .before .before .before .before .before .before .before .before .block-on .ensures)
 
 pub put-on-spec : {M : Type 1} → statement M
 put-on-spec =
@@ -83,18 +62,11 @@ put-on-spec =
     enum-known-shape
     way-of-requires-2
     returns-2
-    enum-known-block
-    clear-on-requires
-    enum-known-block-2
-    whole-on-requires
+    block-on-requires
+    way-at-requires
     returns-3
     same-length
     same-length-2
     same-length-3
     same-length-4
-    returns-4
-    same-length-5
-    same-length-6
-    same-length-7
-    same-length-8
-    returns-5)
+    returns-4)

@@ -1,7 +1,6 @@
 use mathlib.Core.Path.{refl}
-use mathlib.Core.Logic.{⊎-elim}
 use Rattle.calls.specs.Results.{wentTo}
-use Rattle.put_runs.proofs.Steps.{still-open, nowhere, raise-step, said-other, gave-other, run-answers, run-follows}
+use Rattle.put_runs.proofs.Steps.{raise-step, said-refused, gave-refused, run-stays, run-follows}
 use borrow.Author.Needs.{needs}
 use Rattle.put_runs.proofs.raise_on.Statement.{statement}
 use Rattle.put_runs.proofs.raise_on.Tie as tie
@@ -15,12 +14,6 @@ block-at-requires c κs = search needs
 
 enum-told : tie.Need-enum-told
 enum-told c = search needs
-
-add-way-of : tie.Need-add-way-of
-add-way-of c = search needs
-
-way-of-requires : tie.Need-way-of-requires
-way-of-requires c κs = search needs
 
 enum-known-tree : tie.Need-enum-known-tree
 enum-known-tree c = search needs
@@ -37,41 +30,28 @@ enum-known-said c = search needs
 enum-told-2 : tie.Need-enum-told-2
 enum-told-2 c = search needs
 
-add-entry-on : tie.Need-add-entry-on
-add-entry-on c = search needs
-
-entry-on-requires : tie.Need-entry-on-requires
-entry-on-requires c κs = still-open (c .before .before .before .before .before .before .before .before .before .before .before .before .before .before .before .before .before .before .before .before .before .before .before .pre) refl (search needs) refl refl
-
 same-length : tie.Need-same-length
 same-length c = search needs
+
+returns-2 : tie.Need-returns-2
+unfolding wentTo
+returns-2 c = run-follows (c .before .before .before .before .before .before .before .before .before .before .before .before .before .before .if1 .left) (raise-step (c .before .before .before .before .before .before .before .before .before .before .before .before .before .before .before .before .before .before .before .before .pre) (c .before .before .before .before .before .before .before .before .before .before .before .before .before .block-at .ensures) (c .before .before .before .before .before .before .before .before .before .before .before .tree .given .1) (c .before .before .before .before .before .before .before .before .frames-of .ensures) (c .before .before .before .before .before .before .before .give-count .ensures) (rw (c .before .before .before .said .given .1, c .enum-told2 .given .1) refl)) refl
+
+returns-3 : tie.Need-returns-3
+unfolding wentTo
+returns-3 c = refl
 
 same-length-2 : tie.Need-same-length-2
 same-length-2 c = search needs
 
+returns-4 : tie.Need-returns-4
+returns-4 c = run-stays _ _ (raise-step (c .before .before .before .before .before .before .before .before .before .before .before .before .before .before .before .before .before .before .before .pre) (c .before .before .before .before .before .before .before .before .before .before .before .before .block-at .ensures) (c .before .before .before .before .before .before .before .before .before .before .tree .given .1) (c .before .before .before .before .before .before .before .frames-of .ensures) (c .before .before .before .before .before .before .give-count .ensures) refl) (gave-refused _ (c .before .before .said .given .1) (c .match3 .keys2)) refl
+
 same-length-3 : tie.Need-same-length-3
 same-length-3 c = search needs
 
-returns-2 : tie.Need-returns-2
-returns-2 c = run-follows (c .before .before .before .before .before .before .before .before .before .before .before .before .before .before .before .before .before .before .before .before .before .before .if1 .left) (raise-step (c .before .before .before .before .before .before .before .before .before .before .before .before .before .before .before .before .before .before .before .before .before .before .before .before .before .before .before .before .pre) (c .before .before .before .before .before .before .before .before .before .before .before .before .before .before .before .before .before .before .before .before .before .block-at .ensures) (c .before .before .before .before .before .before .before .before .before .before .before .before .before .before .before .before .before .before .before .tree .given .1) (c .before .before .before .before .before .before .before .before .before .before .before .before .before .before .before .before .frames-of .ensures) (c .before .before .before .before .before .before .before .before .before .before .before .before .before .before .before .give-count .ensures) (rw (c .before .before .before .before .before .before .before .before .before .before .before .said .given .1, c .before .before .before .before .before .before .before .before .enum-told2 .given .1) refl)) (c .before .before .before .before .entry-on .ensures)
-
-given-answer-requires : tie.Need-given-answer-requires
-given-answer-requires c κs = search needs
-
-add-way-of-2 : tie.Need-add-way-of-2
-add-way-of-2 c = search needs
-
-way-of-requires-2 : tie.Need-way-of-requires-2
-way-of-requires-2 c κs = search needs
-
-returns-3 : tie.Need-returns-3
-returns-3 c = run-answers (c .before .before .before .before .if1 .left) (nowhere (c .before .before .before .before .before .before .before .before .before .before .pre) _ (c .before .before .before .block-at .ensures) (c .before .enum-told .given .1)) (c .way-of .ensures)
-
-same-length-4 : tie.Need-same-length-4
-same-length-4 c = search needs
-
-returns-4 : tie.Need-returns-4
-returns-4 c = run-answers (c .before .before .before .before .before .before .before .before .before .before .before .before .if1 .left) (raise-step (c .before .before .before .before .before .before .before .before .before .before .before .before .before .before .before .before .before .before .pre) (c .before .before .before .before .before .before .before .before .before .before .before .block-at .ensures) (c .before .before .before .before .before .before .before .before .before .tree .given .1) (c .before .before .before .before .before .before .frames-of .ensures) (c .before .before .before .before .before .give-count .ensures) (⊎-elim (λ u. gave-other _ (c .before .given-answer .ensures) (u .1 .given .1) (u .3 .keys2) (u .4)) (λ u. said-other _ (c .before .given-answer .ensures) (u .0 .keys2) (u .1)) (c .before .before .match2 .came))) (c .way-of2 .ensures)
+returns-5 : tie.Need-returns-5
+returns-5 c = run-stays _ _ (raise-step (c .before .before .before .before .before .before .before .before .before .before .before .before .before .before .before .before .pre) (c .before .before .before .before .before .before .before .before .before .block-at .ensures) (c .before .before .before .before .before .before .before .tree .given .1) (c .before .before .before .before .frames-of .ensures) (c .before .before .before .give-count .ensures) refl) (said-refused _ (c .before .before .before .give-count .result) (c .match2 .keys2)) refl
 
 pub raise-on-spec : {M : Type 1} → statement M
 raise-on-spec =
@@ -80,22 +60,15 @@ raise-on-spec =
     returns
     block-at-requires
     enum-told
-    add-way-of
-    way-of-requires
     enum-known-tree
     frames-of-requires
     give-count-requires
     enum-known-said
     enum-told-2
-    add-entry-on
-    entry-on-requires
     same-length
-    same-length-2
-    same-length-3
     returns-2
-    given-answer-requires
-    add-way-of-2
-    way-of-requires-2
     returns-3
-    same-length-4
-    returns-4)
+    same-length-2
+    returns-4
+    same-length-3
+    returns-5)

@@ -12,13 +12,13 @@ again-requires : tie.Need-again-requires
 again-requires c κs = search needs
 
 returns : tie.Need-returns
-returns c = first-differs _ _ (c .before .before .before .before .read .ensures) (c .before .before .before .again .ensures ∙ sym (ap encode (c .before .before .before .before .read .ensures))) (c .if1 .taken)
+returns c = first-differs _ _ (c .before .before .before .read .ensures) (c .before .before .again .ensures ∙ sym (ap encode (c .before .before .before .read .ensures))) (c .if1 .taken)
 
 returns-2 : tie.Need-returns-2
-returns-2 c = second-differs _ _ (c .before .before .before .before .before .before .before .read .ensures) (c .before .before .before .before .before .before .again .ensures ∙ sym (ap encode (c .before .before .before .before .before .before .before .read .ensures))) (c .before .before .before .if1 .left) (c .if2 .taken)
+returns-2 c = second-differs _ _ (c .before .before .before .before .before .read .ensures) (c .before .before .before .before .again .ensures ∙ sym (ap encode (c .before .before .before .before .before .read .ensures))) (c .before .before .if1 .left) (c .if2 .taken)
 
 returns-3 : tie.Need-returns-3
-returns-3 c = both-same _ _ (c .before .before .before .before .before .before .before .read .ensures) (c .before .before .before .before .before .before .again .ensures ∙ sym (ap encode (c .before .before .before .before .before .before .before .read .ensures))) (c .before .before .before .if1 .left) (c .if2 .left)
+returns-3 c = both-same _ _ (c .before .before .before .before .before .read .ensures) (c .before .before .before .before .again .ensures ∙ sym (ap encode (c .before .before .before .before .before .read .ensures))) (c .before .before .if1 .left) (c .if2 .left)
 
 pub decode-spec : {M : Type 1} → statement M
 decode-spec = tie.close (tie.spec read-requires again-requires returns returns-2 returns-3)

@@ -2,8 +2,8 @@ use mathlib.Core.Path.{refl}
 use Rattle.calls.specs.Results.{wentTo}
 use borrow.Author.Needs.{needs}
 use Rattle.runs.proofs.Went.{at-taking, at-giving, went-as, left-as}
-use Rattle.runs.proofs.way.Statement.{statement}
-use Rattle.runs.proofs.way.Tie as tie
+use Rattle.runs.proofs.first_way.Statement.{statement}
+use Rattle.runs.proofs.first_way.Tie as tie
 
 enum-told : tie.Need-enum-told
 enum-told c = search needs
@@ -80,8 +80,8 @@ returns-7 : tie.Need-returns-7
 unfolding wentTo
 returns-7 c = refl
 
-pub way-spec : {M : Type 1} → statement M
-way-spec =
+pub first-way-spec : {M : Type 1} → statement M
+first-way-spec =
     tie.close
     (tie.spec
     enum-told
