@@ -27,7 +27,7 @@ use rules::Tree;
 
 // ---- rule 1: the own entry
 
-pub fn own_answer(shape: Shape, cpu: u8, order: Order, said: Claimed) -> Answer
+fn own_answer(shape: Shape, cpu: u8, order: Order, said: Claimed) -> Answer
     ensures { λ r. ⌜ r ≡ ownAnswer (shapeOf shape) cpu order said ⌝ }
 {
     match said {

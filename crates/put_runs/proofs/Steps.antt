@@ -23,7 +23,7 @@ use Rattle.lower.specs.Steps.{giveIn, clearHugeIn, clearRunIn}
 use Rattle.lower.proofs.Given as Givens
 use Rattle.entries.specs.Steps.{addCountIn}
 use Rattle.cpu_entries.specs.Steps.{addOwnIn}
-use Rattle.places.specs.Shapes.{shapeOf, blockAtIn, ranged}
+use Rattle.places.specs.Shapes.{shapeOf, ranged}
 use Rattle.lending.specs.Answers.{givenAnswer}
 use Rattle.cpu_stages.specs.Tables.{inCpus}
 use Rattle.cpu_stages.specs.Answers.{heldAnswer}
@@ -40,8 +40,8 @@ use Rattle.upper.proofs.Stepped.{step-refused, step-out, step-acts, cpu-out, st
 use Rattle.upper.proofs.Runs.{stays, went, goes}
 use Rattle.calls.specs.Results.{zone, Result, result, done, Fits, Opened, wayBy, wayOf, wentTo, WentOn}
 use Rattle.calls.proofs.Opened.{checkedIn, checked-open}
-use Rattle.put_runs.specs.Types.{Frame, Huge, Tree, Run, Block, Gave, Giving, Record, CpuEntry, Answer, Given, Added, Held, Shape, BlockAt, Checked, Way}
-use Rattle.put_runs.specs.Stands.{stepsToEntry, endsWith}
+use Rattle.put_runs.specs.Types.{Frame, Huge, Tree, Run, Block, Gave, Giving, Record, CpuEntry, Answer, Given, Added, Held, Shape, Checked, Way}
+use Rattle.put_runs.specs.Stands.{stepsToEntry, endsWith, LiesAt}
 
 -- ---- a put's numbers are its block's
 
@@ -108,31 +108,31 @@ module _ {s : Shape} {cpu : ℕ} {h w c t p : List ℕ} (o : Opened s cpu h w c 
 
 -- ---- the stages, from what the low level says
 
-module _ {s : Shape} {cpu : ℕ} {h w c t p : List ℕ} (o : Opened s cpu h w c t p) {r : Answer} {m : List ℕ} {k : BlockAt} {u : Tree} {i : ℕ} where
-  pub to-tree-step : {b : Block} {n : ℕ} {a : Added} → k ≡ blockAtIn (shapeOf s) b → k ≡ BlockAt.At u i → n ≡ sizeOf b → outcome a m ≡ addCountIn (s .size) u n t
+module _ {s : Shape} {cpu : ℕ} {h w c t p : List ℕ} (o : Opened s cpu h w c t p) {r : Answer} {m : List ℕ} {u : Tree} {i : ℕ} where
+  pub to-tree-step : {b : Block} {n : ℕ} {a : Added} → LiesAt s b u i → n ≡ sizeOf b → outcome a m ≡ addCountIn (s .size) u n t
       → r ≡ addedAnswer (Answer.Done (firstOf b)) a → Steps (zone h w c t p) (Record.Put cpu (Giving.ToTree b)) (result r (zone h w c m p))
   unfolding give
-  to-tree-step {b} {n} e q f d a = tree-steps o (Giving.ToTree b) refl (to-tree-rule s cpu b t u i e q refl n f d a)
+  to-tree-step {b} {n} q f d a = tree-steps o (Giving.ToTree b) refl (to-tree-rule s cpu b t u i refl q refl n f d a)
 
-  pub to-entry-step : {b : Block} {n : ℕ} {a : Held} → k ≡ blockAtIn (shapeOf s) b → k ≡ BlockAt.At u i → n ≡ sizeOf b → outcome a m ≡ addOwnIn (s .size) cpu u n p
+  pub to-entry-step : {b : Block} {n : ℕ} {a : Held} → LiesAt s b u i → n ≡ sizeOf b → outcome a m ≡ addOwnIn (s .size) cpu u n p
       → r ≡ heldAnswer (Answer.Done (firstOf b)) (Answer.UnderWay (Record.Put cpu (Giving.ToTree b))) a → Steps (zone h w c t p) (Record.Put cpu (Giving.ToEntry b)) (result r (zone h w c t m))
   unfolding give
-  to-entry-step {b} {n} e q f d a = cpu-steps o (Giving.ToEntry b) refl (to-entry-rule s cpu b p u i e q refl n f refl d a)
+  to-entry-step {b} {n} q f d a = cpu-steps o (Giving.ToEntry b) refl (to-entry-rule s cpu b p u i refl q refl n f refl d a)
 
-  pub raise-step : {v : Run} {f : Frame} {n : ℕ} {a : Given} → k ≡ blockAtIn (shapeOf s) (Block.Run v f) → k ≡ BlockAt.At u i → n ≡ runSize v → outcome a m ≡ lentChildren (shapeOf s) u Given.NoChild (λ l. giveIn n l i) c
+  pub raise-step : {v : Run} {f : Frame} {n : ℕ} {a : Given} → LiesAt s (Block.Run v f) u i → n ≡ runSize v → outcome a m ≡ lentChildren (shapeOf s) u Given.NoChild (λ l. giveIn n l i) c
       → r ≡ givenAnswer (Answer.UnderWay (Record.Put cpu (Giving.ToEntry (Block.Run v f)))) a → Steps (zone h w c t p) (Record.Put cpu (Giving.Raise v f)) (result r (zone h w m t p))
   unfolding give inChildren
-  raise-step {v} {f} e q n d a = child-steps o (Giving.Raise v f) refl (given-there (shapeOf s) c (Block.Run v f) _ e q _ plain a (giveCount (runSize v)) (rw n at d) refl)
+  raise-step {v} {f} q n d a = child-steps o (Giving.Raise v f) refl (given-there (shapeOf s) c (Block.Run v f) _ refl q _ plain a (giveCount (runSize v)) (rw n at d) refl)
 
-  pub clear-whole-step : {y : Huge} {a : Given} → k ≡ blockAtIn (shapeOf s) (Block.Whole y) → k ≡ BlockAt.At u i → outcome a m ≡ lentChildren (shapeOf s) u Given.NoChild (λ l. clearHugeIn l i) c
+  pub clear-whole-step : {y : Huge} {a : Given} → LiesAt s (Block.Whole y) u i → outcome a m ≡ lentChildren (shapeOf s) u Given.NoChild (λ l. clearHugeIn l i) c
       → r ≡ givenAnswer (Answer.UnderWay (Record.Put cpu (Giving.ToEntry (Block.Whole y)))) a → Steps (zone h w c t p) (Record.Put cpu (Giving.Clear (Block.Whole y))) (result r (zone h w m t p))
   unfolding give clear inChildren
-  clear-whole-step {y} e q d a = child-steps o (Giving.Clear (Block.Whole y)) refl (given-there (shapeOf s) c (Block.Whole y) _ e q _ (clears (Block.Whole y)) a clearHuge d refl)
+  clear-whole-step {y} q d a = child-steps o (Giving.Clear (Block.Whole y)) refl (given-there (shapeOf s) c (Block.Whole y) _ refl q _ (clears (Block.Whole y)) a clearHuge d refl)
 
-  pub clear-run-step : {v : Run} {f : Frame} {a : Given} → k ≡ blockAtIn (shapeOf s) (Block.Run v f) → k ≡ BlockAt.At u i → outcome a m ≡ lentWords (shapeOf s) u Given.NoChild (λ l. clearRunIn (runSize v) l i (wordOf f) (bitOf f)) w
+  pub clear-run-step : {v : Run} {f : Frame} {a : Given} → LiesAt s (Block.Run v f) u i → outcome a m ≡ lentWords (shapeOf s) u Given.NoChild (λ l. clearRunIn (runSize v) l i (wordOf f) (bitOf f)) w
       → r ≡ givenAnswer (Answer.UnderWay (Record.Put cpu (Giving.Raise v f))) a → Steps (zone h w c t p) (Record.Put cpu (Giving.Clear (Block.Run v f))) (result r (zone h m c t p))
   unfolding give clear inWords
-  clear-run-step {v} {f} e q d a = word-steps o (Giving.Clear (Block.Run v f)) refl (cleared-there (shapeOf s) w (Block.Run v f) _ e q _ (clears (Block.Run v f)) a (runSize v) (bitOf f) (omega arith) (run-fits (shapeOf s) v f e q) d refl)
+  clear-run-step {v} {f} q d a = word-steps o (Giving.Clear (Block.Run v f)) refl (cleared-there (shapeOf s) w (Block.Run v f) _ refl q _ (clears (Block.Run v f)) a (runSize v) (bitOf f) (omega arith) (run-fits (shapeOf s) v f refl q) d refl)
 
 -- ---- the answer of a count given back, or of a block cleared
 

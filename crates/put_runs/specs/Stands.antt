@@ -1,7 +1,9 @@
--- Where a put stands, and how its run goes on from there.
+-- Where a put stands, and how its run goes on from there; and where its block lies.
+use mathlib.Core.Path.{_≡_}
 use Prim.Native.Nat.{ℕ, _+_}
 use Rattle.rules.specs.Blocks.{firstOf}
-use Rattle.put_runs.specs.Types.{Block, Giving, Record, Answer, Way, At}
+use Rattle.places.specs.Shapes.{shapeOf, blockAtIn}
+use Rattle.put_runs.specs.Types.{Tree, Block, Giving, Record, Answer, Shape, BlockAt, Way, At}
 
 -- the steps that lead to the entry
 abbrev pub stepsToEntry : Block → ℕ
@@ -23,3 +25,12 @@ wayAt cpu b At.ToEntry = Way.Goes (Record.Put cpu (Giving.ToEntry b)) (stepsToEn
 wayAt cpu b At.ToTree = Way.Goes (Record.Put cpu (Giving.ToTree b)) (stepsToEntry b + 1)
 wayAt cpu b At.InEntry = endsWith b (stepsToEntry b + 1)
 wayAt cpu b At.InTree = endsWith b (stepsToEntry b + 2)
+
+-- the block lies in the zone, in that child of that tree
+abbrev pub LiesAt : Shape → Block → Tree → ℕ → Type 0
+LiesAt s b t c = blockAtIn (shapeOf s) b ≡ BlockAt.At t c
+
+-- in that tree
+pub record LiesIn (s : Shape) (b : Block) (t : Tree) : Type 0 where
+  pub child : ℕ
+  pub there : LiesAt s b t child

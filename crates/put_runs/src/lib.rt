@@ -5,7 +5,7 @@ ghost use Prim.Native.Nat.{_+_, _<_};
 ghost use Rattle.rules.specs.Begin.{beginPut};
 ghost use Rattle.rules.specs.Step.{step, follow};
 ghost use Rattle.calls.specs.Results.{zone, Opened, wentTo, WentOn};
-ghost use Rattle.put_runs.specs.Stands.{stepsToEntry, endsWith, wayAt};
+ghost use Rattle.put_runs.specs.Stands.{stepsToEntry, endsWith, wayAt, LiesAt, LiesIn};
 use begins::Putting;
 use calls::Checked;
 use calls::Ended;
@@ -23,6 +23,7 @@ use rules::Giving;
 use rules::Huge;
 use rules::Record;
 use rules::Run;
+use rules::Tree;
 
 const CHILD_FRAMES: u64 = 512;
 
@@ -95,24 +96,20 @@ fn tree_on(
     shape: Shape,
     cpu: u8,
     block: Block,
+    tree: Tree,
     steps: u64,
     fuel: u64,
 ) -> At
-    requires { ⌜ Opened shape cpu (now header) (now words) (now children) (now trees) (now cpus) × (steps ≡ stepsToEntry block + 1) ⌝ }
+    requires { ⌜ Opened shape cpu (now header) (now words) (now children) (now trees) (now cpus) × (steps ≡ stepsToEntry block + 1) × LiesIn shape block tree ⌝ }
     ensures { λ r. ⌜ WentOn step fuel steps (Record.Put cpu (Giving.ToTree block)) (wayAt cpu block r) (zone (now (header .entry)) (now (words .entry)) (now (children .entry)) (now (trees .exit)) (now (cpus .entry))) (zone (now (header .entry)) (now (words .entry)) (now (children .entry)) (now (trees .entry)) (now (cpus .entry))) ⌝ }
 {
     if fuel <= steps {
         return At::ToTree;
     }
-    match places::block_at(shape, block) {
-        BlockAt::Nowhere => At::ToTree,
-        BlockAt::At { tree, child: _ } => {
-            match entries::add_count(trees, shape.size, tree, places::block_frames(block)) {
-                Added::Added => At::InTree,
-                Added::Damaged => At::ToTree,
-                Added::NoTree => At::ToTree,
-            }
-        }
+    match entries::add_count(trees, shape.size, tree, places::block_frames(block)) {
+        Added::Added => At::InTree,
+        Added::Damaged => At::ToTree,
+        Added::NoTree => At::ToTree,
     }
 }
 
@@ -126,42 +123,39 @@ fn entry_on(
     shape: Shape,
     cpu: u8,
     block: Block,
+    tree: Tree,
     steps: u64,
     fuel: u64,
 ) -> At
-    requires { ⌜ Opened shape cpu (now header) (now words) (now children) (now trees) (now cpus) × (steps ≡ stepsToEntry block) ⌝ }
+    requires { ⌜ Opened shape cpu (now header) (now words) (now children) (now trees) (now cpus) × (steps ≡ stepsToEntry block) × LiesIn shape block tree ⌝ }
     ensures { λ r. ⌜ WentOn step fuel steps (Record.Put cpu (Giving.ToEntry block)) (wayAt cpu block r) (zone (now (header .entry)) (now (words .entry)) (now (children .entry)) (now (trees .exit)) (now (cpus .exit))) (zone (now (header .entry)) (now (words .entry)) (now (children .entry)) (now (trees .entry)) (now (cpus .entry))) ⌝ }
 {
     if fuel <= steps {
         return At::ToEntry;
     }
-    match places::block_at(shape, block) {
-        BlockAt::Nowhere => At::ToEntry,
-        BlockAt::At { tree, child: _ } => {
-            match cpu_entries::add_own(
-                cpus,
-                shape.size,
-                cpu as usize,
-                tree,
-                places::block_frames(block),
-            ) {
-                Held::Held => At::InEntry,
-                Held::Missed => tree_on(
-                    header,
-                    words,
-                    children,
-                    trees,
-                    cpus,
-                    shape,
-                    cpu,
-                    block,
-                    steps + 1,
-                    fuel,
-                ),
-                Held::Damaged => At::ToEntry,
-                Held::NoCpu => At::ToEntry,
-            }
-        }
+    match cpu_entries::add_own(
+        cpus,
+        shape.size,
+        cpu as usize,
+        tree,
+        places::block_frames(block),
+    ) {
+        Held::Held => At::InEntry,
+        Held::Missed => tree_on(
+            header,
+            words,
+            children,
+            trees,
+            cpus,
+            shape,
+            cpu,
+            block,
+            tree,
+            steps + 1,
+            fuel,
+        ),
+        Held::Damaged => At::ToEntry,
+        Held::NoCpu => At::ToEntry,
     }
 }
 
@@ -176,32 +170,23 @@ fn raise_on(
     cpu: u8,
     run: Run,
     first: Frame,
+    tree: Tree,
+    child: u8,
     fuel: u64,
 ) -> At
-    requires { ⌜ Opened shape cpu (now header) (now words) (now children) (now trees) (now cpus) ⌝ }
+    requires { ⌜ Opened shape cpu (now header) (now words) (now children) (now trees) (now cpus) × LiesAt shape (Block.Run run first) tree child ⌝ }
     ensures { λ r. ⌜ WentOn step fuel 1 (Record.Put cpu (Giving.Raise run first)) (wayAt cpu (Block.Run run first) r) (zone (now (header .entry)) (now (words .entry)) (now (children .exit)) (now (trees .entry)) (now (cpus .entry))) (zone (now (header .entry)) (now (words .entry)) (now (children .entry)) (now (trees .entry)) (now (cpus .entry))) ⌝ }
 {
     if fuel <= 1 {
         return At::Raise;
     }
-    match places::block_at(shape, Block::Run { run, first }) {
-        BlockAt::Nowhere => At::Raise,
-        BlockAt::At { tree, child } => {
-            let said = child_stages::give_count(
-                children,
-                shape,
-                tree,
-                child,
-                rules::frames_of(run),
-            );
-            if let Given::Entry(gave) = said {
-                if let Gave::Given = gave {
-                    return At::ToEntry;
-                }
-            }
-            At::Raise
+    let said = child_stages::give_count(children, shape, tree, child, rules::frames_of(run));
+    if let Given::Entry(gave) = said {
+        if let Gave::Given = gave {
+            return At::ToEntry;
         }
     }
+    At::Raise
 }
 
 // The clearing store of a run.
@@ -215,36 +200,35 @@ fn clear_on(
     cpu: u8,
     run: Run,
     first: Frame,
+    tree: Tree,
+    child: u8,
     fuel: u64,
 ) -> At
-    requires { ⌜ Opened shape cpu (now header) (now words) (now children) (now trees) (now cpus) × (0 < fuel) ⌝ }
+    requires { ⌜ Opened shape cpu (now header) (now words) (now children) (now trees) (now cpus) × (0 < fuel) × LiesAt shape (Block.Run run first) tree child ⌝ }
     ensures { λ r. ⌜ WentOn step fuel 0 (Record.Put cpu (Giving.Clear (Block.Run run first))) (wayAt cpu (Block.Run run first) r) (zone (now (header .entry)) (now (words .exit)) (now (children .exit)) (now (trees .entry)) (now (cpus .entry))) (zone (now (header .entry)) (now (words .entry)) (now (children .entry)) (now (trees .entry)) (now (cpus .entry))) ⌝ }
 {
-    match places::block_at(shape, Block::Run { run, first }) {
-        BlockAt::Nowhere => At::Clear,
-        BlockAt::At { tree, child } => {
-            let word = (first.0 % CHILD_FRAMES / WORD_BITS) as usize;
-            let bit = (first.0 % WORD_BITS) as u32;
-            let said = word_stages::clear_run(words, shape, tree, child, word, bit, run);
-            if let Given::Entry(gave) = said {
-                if let Gave::Given = gave {
-                    return raise_on(
-                        header,
-                        words,
-                        children,
-                        trees,
-                        cpus,
-                        shape,
-                        cpu,
-                        run,
-                        first,
-                        fuel,
-                    );
-                }
-            }
-            At::Clear
+    let word = (first.0 % CHILD_FRAMES / WORD_BITS) as usize;
+    let bit = (first.0 % WORD_BITS) as u32;
+    let said = word_stages::clear_run(words, shape, tree, child, word, bit, run);
+    if let Given::Entry(gave) = said {
+        if let Gave::Given = gave {
+            return raise_on(
+                header,
+                words,
+                children,
+                trees,
+                cpus,
+                shape,
+                cpu,
+                run,
+                first,
+                tree,
+                child,
+                fuel,
+            );
         }
     }
+    At::Clear
 }
 
 // The clearing store of a huge frame.
@@ -257,26 +241,23 @@ fn whole_on(
     shape: Shape,
     cpu: u8,
     huge: Huge,
+    tree: Tree,
+    child: u8,
     fuel: u64,
 ) -> At
-    requires { ⌜ Opened shape cpu (now header) (now words) (now children) (now trees) (now cpus) × (0 < fuel) ⌝ }
+    requires { ⌜ Opened shape cpu (now header) (now words) (now children) (now trees) (now cpus) × (0 < fuel) × LiesAt shape (Block.Whole huge) tree child ⌝ }
     ensures { λ r. ⌜ WentOn step fuel 0 (Record.Put cpu (Giving.Clear (Block.Whole huge))) (wayAt cpu (Block.Whole huge) r) (zone (now (header .entry)) (now (words .entry)) (now (children .exit)) (now (trees .entry)) (now (cpus .entry))) (zone (now (header .entry)) (now (words .entry)) (now (children .entry)) (now (trees .entry)) (now (cpus .entry))) ⌝ }
 {
-    match places::block_at(shape, Block::Whole(huge)) {
-        BlockAt::Nowhere => At::Clear,
-        BlockAt::At { tree, child } => {
-            let said = child_stages::clear_huge(children, shape, tree, child);
-            if let Given::Entry(gave) = said {
-                if let Gave::Given = gave {
-                    return At::ToEntry;
-                }
-            }
-            At::Clear
+    let said = child_stages::clear_huge(children, shape, tree, child);
+    if let Given::Entry(gave) = said {
+        if let Gave::Given = gave {
+            return At::ToEntry;
         }
     }
+    At::Clear
 }
 
-// The steps before the entry's: the clearing store, and a run's count.
+// The steps before the entry's, where one is left: the clearing store, and a run's count.
 fn cleared_on(
     header: &[u64],
     words: &mut [u64],
@@ -286,14 +267,13 @@ fn cleared_on(
     shape: Shape,
     cpu: u8,
     block: Block,
+    tree: Tree,
+    child: u8,
     fuel: u64,
 ) -> At
-    requires { ⌜ Opened shape cpu (now header) (now words) (now children) (now trees) (now cpus) ⌝ }
+    requires { ⌜ Opened shape cpu (now header) (now words) (now children) (now trees) (now cpus) × (0 < fuel) × LiesAt shape block tree child ⌝ }
     ensures { λ r. ⌜ WentOn step fuel 0 (Record.Put cpu (Giving.Clear block)) (wayAt cpu block r) (zone (now (header .entry)) (now (words .exit)) (now (children .exit)) (now (trees .entry)) (now (cpus .entry))) (zone (now (header .entry)) (now (words .entry)) (now (children .entry)) (now (trees .entry)) (now (cpus .entry))) ⌝ }
 {
-    if fuel == 0 {
-        return At::Clear;
-    }
     match block {
         Block::Run { run, first } => clear_on(
             header,
@@ -305,6 +285,8 @@ fn cleared_on(
             cpu,
             run,
             first,
+            tree,
+            child,
             fuel,
         ),
         Block::Whole(huge) => whole_on(
@@ -316,6 +298,8 @@ fn cleared_on(
             shape,
             cpu,
             huge,
+            tree,
+            child,
             fuel,
         ),
     }
@@ -336,32 +320,43 @@ fn block_on(
     requires { ⌜ Opened shape cpu (now header) (now words) (now children) (now trees) (now cpus) ⌝ }
     ensures { λ r. ⌜ WentOn step fuel 0 (Record.Put cpu (Giving.Clear block)) (wayAt cpu block r) (zone (now (header .entry)) (now (words .exit)) (now (children .exit)) (now (trees .exit)) (now (cpus .exit))) (zone (now (header .entry)) (now (words .entry)) (now (children .entry)) (now (trees .entry)) (now (cpus .entry))) ⌝ }
 {
-    let at = cleared_on(
-        header,
-        words,
-        children,
-        trees,
-        cpus,
-        shape,
-        cpu,
-        block,
-        fuel,
-    );
-    if let At::ToEntry = at {
-        return entry_on(
-            header,
-            words,
-            children,
-            trees,
-            cpus,
-            shape,
-            cpu,
-            block,
-            steps_to_entry(block),
-            fuel,
-        );
+    if fuel == 0 {
+        return At::Clear;
     }
-    at
+    match places::block_at(shape, block) {
+        BlockAt::Nowhere => At::Clear,
+        BlockAt::At { tree, child } => {
+            let at = cleared_on(
+                header,
+                words,
+                children,
+                trees,
+                cpus,
+                shape,
+                cpu,
+                block,
+                tree,
+                child,
+                fuel,
+            );
+            if let At::ToEntry = at {
+                return entry_on(
+                    header,
+                    words,
+                    children,
+                    trees,
+                    cpus,
+                    shape,
+                    cpu,
+                    block,
+                    tree,
+                    steps_to_entry(block),
+                    fuel,
+                );
+            }
+            at
+        }
+    }
 }
 
 // Up to `fuel` steps of a put that begins: each as a single step makes it, the checks of the zone and the CPU made once.

@@ -1,6 +1,6 @@
 // Runs of gets and puts. A run from a first stage goes on as far as the shorter ways lead; what is left is made by single steps.
 ghost use mathlib.Core.Path.{_≡_};
-ghost use Prim.Native.Nat.{_-_, _≤_};
+ghost use Prim.Native.Nat.{_-_};
 ghost use Rattle.rules.specs.Step.{step, runs, follow};
 ghost use Rattle.calls.specs.Results.{zone, ranTo, WentOn};
 use calls::Ended;

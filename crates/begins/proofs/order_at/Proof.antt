@@ -2,7 +2,6 @@ use Rattle.begins.proofs.Begun.{order-run, order-nine, order-none}
 use borrow.Author.Needs.{needs}
 use Rattle.begins.proofs.order_at.Statement.{statement}
 use Rattle.begins.proofs.order_at.Tie as tie
-use Rattle.rules.proofs.run_of.Reads as run-of-reads
 
 run-of-requires : tie.Need-run-of-requires
 run-of-requires c κs = search needs

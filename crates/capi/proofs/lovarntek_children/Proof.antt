@@ -3,7 +3,6 @@ use Rattle.capi.proofs.Calls.{length-none, length-some}
 use borrow.Author.Needs.{needs}
 use Rattle.capi.proofs.lovarntek_children.Statement.{statement}
 use Rattle.capi.proofs.lovarntek_children.Tie as tie
-use Rattle.capi.proofs.no_size.Reads as no-size-reads
 
 no-size-requires : tie.Need-no-size-requires
 no-size-requires c κs = search needs

@@ -4,8 +4,6 @@ use Rattle.capi.proofs.Calls.{made-alone}
 use borrow.Author.Needs.{needs}
 use Rattle.capi.proofs.lovarntek_close.Statement.{statement}
 use Rattle.capi.proofs.lovarntek_close.Tie as tie
-use Rattle.capi.proofs.told.Reads as told-reads
-use Rattle.closing.proofs.close.Reads as close-reads
 
 close-requires : tie.Need-close-requires
 close-requires c κs = search needs

@@ -2,10 +2,6 @@ use Rattle.capi.proofs.Calls.{made-not, made-so}
 use borrow.Author.Needs.{needs}
 use Rattle.capi.proofs.lovarntek_create.Statement.{statement}
 use Rattle.capi.proofs.lovarntek_create.Tie as tie
-use Rattle.capi.proofs.hand_back.Reads as hand-back-reads
-use Rattle.capi.proofs.no_create_record.Reads as no-create-record-reads
-use Rattle.capi.proofs.told.Reads as told-reads
-use Rattle.creating.proofs.create.Reads as create-reads
 
 no-create-record-requires : tie.Need-no-create-record-requires
 no-create-record-requires c κs = search needs

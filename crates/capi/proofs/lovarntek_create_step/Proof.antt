@@ -3,7 +3,6 @@ use Rattle.capi.proofs.Calls.{one-step}
 use borrow.Author.Needs.{needs}
 use Rattle.capi.proofs.lovarntek_create_step.Statement.{statement}
 use Rattle.capi.proofs.lovarntek_create_step.Tie as tie
-use Rattle.capi.proofs.create_on.Reads as create-on-reads
 
 create-on-requires : tie.Need-create-on-requires
 create-on-requires c κs = search needs

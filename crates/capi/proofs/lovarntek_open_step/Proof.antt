@@ -3,7 +3,6 @@ use Rattle.capi.proofs.Calls.{one-step}
 use borrow.Author.Needs.{needs}
 use Rattle.capi.proofs.lovarntek_open_step.Statement.{statement}
 use Rattle.capi.proofs.lovarntek_open_step.Tie as tie
-use Rattle.capi.proofs.open_on.Reads as open-on-reads
 
 open-on-requires : tie.Need-open-on-requires
 open-on-requires c κs = search needs

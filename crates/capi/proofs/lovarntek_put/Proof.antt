@@ -2,10 +2,6 @@ use Rattle.capi.proofs.Calls.{made-not, made-so}
 use borrow.Author.Needs.{needs}
 use Rattle.capi.proofs.lovarntek_put.Statement.{statement}
 use Rattle.capi.proofs.lovarntek_put.Tie as tie
-use Rattle.begins.proofs.begin_put.Reads as begin-put-reads
-use Rattle.capi.proofs.hand_back.Reads as hand-back-reads
-use Rattle.capi.proofs.no_record.Reads as no-record-reads
-use Rattle.capi.proofs.told.Reads as told-reads
 
 no-record-requires : tie.Need-no-record-requires
 no-record-requires c κs = search needs

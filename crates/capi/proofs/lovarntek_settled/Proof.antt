@@ -3,8 +3,6 @@ use Rattle.capi.specs.Calls.{answeredAs}
 use borrow.Author.Needs.{needs}
 use Rattle.capi.proofs.lovarntek_settled.Statement.{statement}
 use Rattle.capi.proofs.lovarntek_settled.Tie as tie
-use Rattle.capi.proofs.told.Reads as told-reads
-use Rattle.closing.proofs.settled.Reads as settled-reads
 
 settled-requires : tie.Need-settled-requires
 settled-requires c κs = search needs

@@ -5,7 +5,6 @@ use Rattle.capi.proofs.Calls.{length-none, length-some, sized-in}
 use borrow.Author.Needs.{needs}
 use Rattle.capi.proofs.lovarntek_trees.Statement.{statement}
 use Rattle.capi.proofs.lovarntek_trees.Tie as tie
-use Rattle.capi.proofs.no_size.Reads as no-size-reads
 
 no-size-requires : tie.Need-no-size-requires
 no-size-requires c κs = search needs

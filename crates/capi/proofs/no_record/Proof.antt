@@ -2,7 +2,6 @@ use Rattle.capi.proofs.Calls.{no-record}
 use borrow.Author.Needs.{needs}
 use Rattle.capi.proofs.no_record.Statement.{statement}
 use Rattle.capi.proofs.no_record.Tie as tie
-use Rattle.entries.proofs.zone_says.Reads as zone-says-reads
 
 zone-says-requires : tie.Need-zone-says-requires
 zone-says-requires c κs = search needs

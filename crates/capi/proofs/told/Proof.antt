@@ -2,8 +2,6 @@ use mathlib.Core.Path.{ap₂}
 use borrow.Author.Needs.{needs}
 use Rattle.capi.proofs.told.Statement.{statement}
 use Rattle.capi.proofs.told.Tie as tie
-use Rattle.records.proofs.frame_of.Reads as frame-of-reads
-use Rattle.records.proofs.number_of.Reads as number-of-reads
 
 number-of-requires : tie.Need-number-of-requires
 number-of-requires c κs = search needs

@@ -1,4 +1,4 @@
-use mathlib.Core.Path.{refl, _∙_}
+use mathlib.Core.Path.{refl}
 use borrow.Author.Needs.{needs}
 use Rattle.get_runs.proofs.way_left.Statement.{statement}
 use Rattle.get_runs.proofs.way_left.Tie as tie

@@ -9,15 +9,6 @@ returns : tie.Need-returns
 unfolding wentTo
 returns c = refl
 
-block-at-requires : tie.Need-block-at-requires
-block-at-requires c κs = search needs
-
-enum-told : tie.Need-enum-told
-enum-told c = search needs
-
-enum-known-tree : tie.Need-enum-known-tree
-enum-known-tree c = search needs
-
 frames-of-requires : tie.Need-frames-of-requires
 frames-of-requires c κs = search needs
 
@@ -27,48 +18,40 @@ give-count-requires c κs = search needs
 enum-known-said : tie.Need-enum-known-said
 enum-known-said c = search needs
 
-enum-told-2 : tie.Need-enum-told-2
-enum-told-2 c = search needs
+enum-told : tie.Need-enum-told
+enum-told c = search needs
 
 same-length : tie.Need-same-length
 same-length c = search needs
 
 returns-2 : tie.Need-returns-2
 unfolding wentTo
-returns-2 c = run-follows (c .before .before .before .before .before .before .before .before .before .before .before .before .before .before .if1 .left) (raise-step (c .before .before .before .before .before .before .before .before .before .before .before .before .before .before .before .before .before .before .before .before .pre) (c .before .before .before .before .before .before .before .before .before .before .before .before .before .block-at .ensures) (c .before .before .before .before .before .before .before .before .before .before .before .tree .given .1) (c .before .before .before .before .before .before .before .before .frames-of .ensures) (c .before .before .before .before .before .before .before .give-count .ensures) (rw (c .before .before .before .said .given .1, c .enum-told2 .given .1) refl)) refl
-
-returns-3 : tie.Need-returns-3
-unfolding wentTo
-returns-3 c = refl
+returns-2 c = run-follows (c .before .before .before .before .before .before .before .before .before .before .if1 .left) (raise-step (c .before .before .before .before .before .before .before .before .before .before .before .before .before .before .before .before .pre .0) (c .before .before .before .before .before .before .before .before .before .before .before .before .before .before .before .before .pre .1) (c .before .before .before .before .before .before .before .before .frames-of .ensures) (c .before .before .before .before .before .before .before .give-count .ensures) (rw (c .before .before .before .said .given .1, c .enum-told .given .1) refl)) refl
 
 same-length-2 : tie.Need-same-length-2
 same-length-2 c = search needs
 
-returns-4 : tie.Need-returns-4
-returns-4 c = run-stays _ _ (raise-step (c .before .before .before .before .before .before .before .before .before .before .before .before .before .before .before .before .before .before .before .pre) (c .before .before .before .before .before .before .before .before .before .before .before .before .block-at .ensures) (c .before .before .before .before .before .before .before .before .before .before .tree .given .1) (c .before .before .before .before .before .before .before .frames-of .ensures) (c .before .before .before .before .before .before .give-count .ensures) refl) (gave-refused _ (c .before .before .said .given .1) (c .match3 .keys2)) refl
+returns-3 : tie.Need-returns-3
+returns-3 c = run-stays _ _ (raise-step (c .before .before .before .before .before .before .before .before .before .before .before .before .before .before .before .pre .0) (c .before .before .before .before .before .before .before .before .before .before .before .before .before .before .before .pre .1) (c .before .before .before .before .before .before .before .frames-of .ensures) (c .before .before .before .before .before .before .give-count .ensures) refl) (gave-refused _ (c .before .before .said .given .1) (c .match2 .keys2)) refl
 
 same-length-3 : tie.Need-same-length-3
 same-length-3 c = search needs
 
-returns-5 : tie.Need-returns-5
-returns-5 c = run-stays _ _ (raise-step (c .before .before .before .before .before .before .before .before .before .before .before .before .before .before .before .before .pre) (c .before .before .before .before .before .before .before .before .before .block-at .ensures) (c .before .before .before .before .before .before .before .tree .given .1) (c .before .before .before .before .frames-of .ensures) (c .before .before .before .give-count .ensures) refl) (said-refused _ (c .before .before .before .give-count .result) (c .match2 .keys2)) refl
+returns-4 : tie.Need-returns-4
+returns-4 c = run-stays _ _ (raise-step (c .before .before .before .before .before .before .before .before .before .before .before .before .pre .0) (c .before .before .before .before .before .before .before .before .before .before .before .before .pre .1) (c .before .before .before .before .frames-of .ensures) (c .before .before .before .give-count .ensures) refl) (said-refused _ (c .before .before .before .give-count .result) (c .match .keys2)) refl
 
 pub raise-on-spec : {M : Type 1} → statement M
 raise-on-spec =
     tie.close
     (tie.spec
     returns
-    block-at-requires
-    enum-told
-    enum-known-tree
     frames-of-requires
     give-count-requires
     enum-known-said
-    enum-told-2
+    enum-told
     same-length
     returns-2
-    returns-3
     same-length-2
-    returns-4
+    returns-3
     same-length-3
-    returns-5)
+    returns-4)

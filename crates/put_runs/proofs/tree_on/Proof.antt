@@ -9,20 +9,14 @@ use Rattle.put_runs.proofs.tree_on.Tie as tie
 returns : tie.Need-returns
 returns c = run-stands _ _ _ (c .before .before .before .before .before .before .pre .1)
 
-block-at-requires : tie.Need-block-at-requires
-block-at-requires c κs = search needs
-
-enum-told : tie.Need-enum-told
-enum-told c = search needs
-
-enum-known-tree : tie.Need-enum-known-tree
-enum-known-tree c = search needs
-
 block-frames-requires : tie.Need-block-frames-requires
 block-frames-requires c κs = search needs
 
 add-count-requires : tie.Need-add-count-requires
 add-count-requires c κs = search needs
+
+enum-told : tie.Need-enum-told
+enum-told c = search needs
 
 enum-told-2 : tie.Need-enum-told-2
 enum-told-2 c = search needs
@@ -30,47 +24,37 @@ enum-told-2 c = search needs
 enum-told-3 : tie.Need-enum-told-3
 enum-told-3 c = search needs
 
-enum-told-4 : tie.Need-enum-told-4
-enum-told-4 c = search needs
-
-returns-2 : tie.Need-returns-2
-returns-2 c = run-stands _ _ _ (c .before .before .before .before .before .before .before .before .before .pre .1)
-
 same-length : tie.Need-same-length
 same-length c = search needs
 
-returns-3 : tie.Need-returns-3
-returns-3 c = run-ends (c .before .before .before .before .before .before .before .before .before .before .before .if1 .left) (c .before .before .before .before .before .before .before .before .before .before .before .before .before .before .before .before .before .args .block) (to-tree-step (c .before .before .before .before .before .before .before .before .before .before .before .before .before .before .before .before .before .pre .0) (c .before .before .before .before .before .before .before .before .before .before .block-at .ensures) (c .before .before .before .before .before .before .before .before .tree .given .1) (c .before .before .before .before .before .block-frames .ensures) (c .before .before .before .before .add-count .ensures) (rw (c .enum-told2 .given .1) refl)) (omega (arith, c .before .before .before .before .before .before .before .before .before .before .before .before .before .before .before .before .before .pre .1))
+returns-2 : tie.Need-returns-2
+returns-2 c = run-ends (c .before .before .before .before .before .before .before .if1 .left) (c .before .before .before .before .before .before .before .before .before .before .before .before .before .args .block) (to-tree-step (c .before .before .before .before .before .before .before .before .before .before .before .before .before .pre .0) (c .before .before .before .before .before .before .before .before .before .before .before .before .before .pre .2 .there) (c .before .before .before .before .before .block-frames .ensures) (c .before .before .before .before .add-count .ensures) (rw (c .enum-told .given .1) refl)) (omega (arith, c .before .before .before .before .before .before .before .before .before .before .before .before .before .pre .1))
 
 same-length-2 : tie.Need-same-length-2
 same-length-2 c = search needs
 
-returns-4 : tie.Need-returns-4
-returns-4 c = run-stays _ Answer.Damaged (to-tree-step (c .before .before .before .before .before .before .before .before .before .before .before .before .before .before .before .before .before .pre .0) (c .before .before .before .before .before .before .before .before .before .before .block-at .ensures) (c .before .before .before .before .before .before .before .before .tree .given .1) (c .before .before .before .before .before .block-frames .ensures) (c .before .before .before .before .add-count .ensures) (rw (c .enum-told3 .given .1) refl)) (omega arith) (c .before .before .before .before .before .before .before .before .before .before .before .before .before .before .before .before .before .pre .1)
+returns-3 : tie.Need-returns-3
+returns-3 c = run-stays _ Answer.Damaged (to-tree-step (c .before .before .before .before .before .before .before .before .before .before .before .before .before .pre .0) (c .before .before .before .before .before .before .before .before .before .before .before .before .before .pre .2 .there) (c .before .before .before .before .before .block-frames .ensures) (c .before .before .before .before .add-count .ensures) (rw (c .enum-told2 .given .1) refl)) (omega arith) (c .before .before .before .before .before .before .before .before .before .before .before .before .before .pre .1)
 
 same-length-3 : tie.Need-same-length-3
 same-length-3 c = search needs
 
-returns-5 : tie.Need-returns-5
-returns-5 c = run-stays _ Answer.BadRecord (to-tree-step (c .before .before .before .before .before .before .before .before .before .before .before .before .before .before .before .before .before .pre .0) (c .before .before .before .before .before .before .before .before .before .before .block-at .ensures) (c .before .before .before .before .before .before .before .before .tree .given .1) (c .before .before .before .before .before .block-frames .ensures) (c .before .before .before .before .add-count .ensures) (rw (c .enum-told4 .given .1) refl)) (omega arith) (c .before .before .before .before .before .before .before .before .before .before .before .before .before .before .before .before .before .pre .1)
+returns-4 : tie.Need-returns-4
+returns-4 c = run-stays _ Answer.BadRecord (to-tree-step (c .before .before .before .before .before .before .before .before .before .before .before .before .before .pre .0) (c .before .before .before .before .before .before .before .before .before .before .before .before .before .pre .2 .there) (c .before .before .before .before .before .block-frames .ensures) (c .before .before .before .before .add-count .ensures) (rw (c .enum-told3 .given .1) refl)) (omega arith) (c .before .before .before .before .before .before .before .before .before .before .before .before .before .pre .1)
 
 pub tree-on-spec : {M : Type 1} → statement M
 tree-on-spec =
     tie.close
     (tie.spec
     returns
-    block-at-requires
-    enum-told
-    enum-known-tree
     block-frames-requires
     add-count-requires
+    enum-told
     enum-told-2
     enum-told-3
-    enum-told-4
-    returns-2
     same-length
-    returns-3
+    returns-2
     same-length-2
-    returns-4
+    returns-3
     same-length-3
-    returns-5)
+    returns-4)
