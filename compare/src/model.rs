@@ -6,7 +6,7 @@ use reference::packed::Tables;
 use reference::zone::Zone;
 
 use crate::call::{Call, Outcome};
-use crate::fault::{Fault, OneCall};
+use crate::fault::{Fault, InRuns};
 use crate::library::Packed;
 use crate::record::Record;
 use crate::translate::{
@@ -60,7 +60,7 @@ impl Model {
             None => (self.step(call, *words), None),
             Some(fuel) => {
                 let (last, steps) = match call.beginning() {
-                    None => self.run(call, *words, fuel),
+                    None => self.run(call, *words, self.allowed(fuel)),
                     Some(beginning) => self.begun_run(&beginning, *words, fuel),
                 };
                 (last, Some(steps))
@@ -74,18 +74,25 @@ impl Model {
         }
     }
 
-    /// Single steps until the answer is not 1 or the fuel is used up. Words that are no record are as good as the finished one.
+    /// The steps that a run is allowed: fuel 0 counts as 1.
+    fn allowed(&self, fuel: u64) -> u64 {
+        match self.fault.and_then(Fault::in_runs) {
+            Some(InRuns::NoFuelNoStep) => fuel,
+            _ => fuel.max(1),
+        }
+    }
+
+    /// Single steps until the answer is not 1 or the fuel is used up.
     fn run(&mut self, call: &Call, words: [u64; 2], fuel: u64) -> (Step, u64) {
         let single = match *call {
             Call::CreateRun { n, .. } => Call::CreateStep { n },
             Call::OpenRun { .. } => Call::OpenStep,
             _ => Call::Step,
         };
-        let given = Record::split(words).unwrap_or(Record::FINISHED);
         let mut last = Step {
             number: 1,
             frame: 0,
-            words: given.join(),
+            words,
         };
         let mut steps = 0;
         while steps < fuel.min(MOST_STEPS) && last.number == 1 {
@@ -97,24 +104,24 @@ impl Model {
 
     /// A get or put begun and, if that is answered 1, run.
     fn begun_run(&mut self, beginning: &Call, words: [u64; 2], fuel: u64) -> (Step, u64) {
-        let fault = self.fault.and_then(Fault::one_call);
+        let fault = self.fault.and_then(Fault::in_runs);
         let begun = self.step(beginning, words);
         if begun.number != 1 {
             return match fault {
-                Some(OneCall::RefusedKeepsRecord) => (Step { words, ..begun }, 0),
-                Some(OneCall::RefusedRuns) => self.run(beginning, words, fuel),
+                Some(InRuns::RefusedKeepsRecord) => (Step { words, ..begun }, 0),
+                Some(InRuns::RefusedRuns) => self.run(beginning, words, fuel),
                 _ => (begun, 0),
             };
         }
         let fuel = match fault {
-            Some(OneCall::BeginTakesFuel) => fuel.saturating_sub(1),
+            Some(InRuns::BeginTakesFuel) => fuel.saturating_sub(1),
             _ => fuel,
         };
         let (mut last, mut steps) = self.run(beginning, begun.words, fuel);
         match fault {
-            Some(OneCall::BeginCounted) => steps += 1,
-            Some(OneCall::RecordLost) if last.number == 1 => last.words = [0, 0],
-            Some(OneCall::RecordOfBegin) if last.number == 1 => last.words = begun.words,
+            Some(InRuns::BeginCounted) => steps += 1,
+            Some(InRuns::RecordLost) if last.number == 1 => last.words = [0, 0],
+            Some(InRuns::RecordOfBegin) if last.number == 1 => last.words = begun.words,
             _ => {}
         }
         (last, steps)

@@ -95,13 +95,13 @@ typedef struct lovarntek_tables {
     (tables).header, (tables).headers, (tables).words, (tables).words_length, (tables).children, (tables).children_length, \
     (tables).trees, (tables).trees_length, (tables).cpus, (tables).cpus_length
 
-/* ---- create: the first step, a later one, up to `fuel` later ones. n is given again at every step. */
+/* ---- create: the first step, a later one, up to max(1, fuel) later ones. n is given again at every step. */
 
 lovarntek_answer lovarntek_create(LOVARNTEK_STORED_HEADER, LOVARNTEK_LOOKED_AT, LOVARNTEK_RECORD_LENT, uint64_t n);
 lovarntek_answer lovarntek_create_step(LOVARNTEK_STORED_HEADER, LOVARNTEK_STORED, LOVARNTEK_RECORD_LENT, uint64_t n);
 lovarntek_ran lovarntek_create_run(LOVARNTEK_STORED_HEADER, LOVARNTEK_STORED, LOVARNTEK_RECORD_LENT, uint64_t n, uint64_t fuel);
 
-/* ---- open: the first step, a later one, up to `fuel` later ones */
+/* ---- open: the first step, a later one, up to max(1, fuel) later ones */
 
 lovarntek_answer lovarntek_open(LOVARNTEK_STORED_HEADER, LOVARNTEK_LOOKED_AT, LOVARNTEK_RECORD_LENT);
 lovarntek_answer lovarntek_open_step(LOVARNTEK_LENT_HEADER, LOVARNTEK_UPPER_STORED, LOVARNTEK_RECORD_LENT);
@@ -112,19 +112,19 @@ lovarntek_ran lovarntek_open_run(LOVARNTEK_LENT_HEADER, LOVARNTEK_UPPER_STORED, 
 lovarntek_answer lovarntek_close(LOVARNTEK_STORED_HEADER, LOVARNTEK_LOOKED_AT);
 lovarntek_answer lovarntek_settled(LOVARNTEK_LENT_HEADER, LOVARNTEK_LOOKED_AT);
 
-/* ---- gets and puts: begun, one step, up to `fuel` steps. Order 0 is a base frame; orders 1 to 6 are runs of 2, 4, 8, 16, 32 and 64 base frames, naturally
+/* ---- gets and puts: begun, one step, up to max(1, fuel) steps. Order 0 is a base frame; orders 1 to 6 are runs of 2, 4, 8, 16, 32 and 64 base frames, naturally
  * aligned; order 9 is a huge frame. Part of a run may be put by itself, as a block of a smaller order. */
 
 lovarntek_answer lovarntek_get(LOVARNTEK_LENT_HEADER, LOVARNTEK_LOOKED_AT, LOVARNTEK_RECORD_LENT, uint64_t cpu, uint64_t order);
 lovarntek_answer lovarntek_put(LOVARNTEK_LENT_HEADER, LOVARNTEK_LOOKED_AT, LOVARNTEK_RECORD_LENT, uint64_t cpu, uint64_t frame, uint64_t order);
 lovarntek_answer lovarntek_step(LOVARNTEK_LENT_HEADER, LOVARNTEK_STORED, LOVARNTEK_RECORD_LENT);
 
-/* A run makes single steps, each as lovarntek_step; out of them it answers 1 with the record. Runs are for memory without cuts: memory that survives a
- * cut is driven by single steps. */
+/* A run makes single steps, each as lovarntek_step; out of them it answers 1 with the record. Fuel 0 counts as 1: an answer 1 is a step made. Runs are for
+ * memory without cuts: memory that survives a cut is driven by single steps. */
 lovarntek_ran lovarntek_run(LOVARNTEK_LENT_HEADER, LOVARNTEK_STORED, LOVARNTEK_RECORD_LENT, uint64_t fuel);
 
-/* Begun and run in one call: as lovarntek_get or lovarntek_put and, if that is answered 1, as lovarntek_run. The record lent is not read; out of steps it
- * goes on by any of the calls above. */
+/* Begun and run in one call: as lovarntek_get or lovarntek_put and, if that is answered 1, up to `fuel` steps as lovarntek_run's; fuel 0 is the beginning
+ * alone. The record lent is not read; out of steps it goes on by any of the calls above. */
 lovarntek_ran lovarntek_get_run(LOVARNTEK_LENT_HEADER, LOVARNTEK_STORED, LOVARNTEK_RECORD_LENT, uint64_t cpu, uint64_t order, uint64_t fuel);
 lovarntek_ran lovarntek_put_run(
     LOVARNTEK_LENT_HEADER, LOVARNTEK_STORED, LOVARNTEK_RECORD_LENT, uint64_t cpu, uint64_t frame, uint64_t order, uint64_t fuel);

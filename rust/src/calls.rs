@@ -83,13 +83,13 @@ calls! {
     create = lovarntek_create(mut, const, const; record; n) -> Answered;
     /// A later step of create, with n again.
     create_step = lovarntek_create_step(mut, mut, mut; record; n) -> Answered;
-    /// Up to `fuel` later steps of create.
+    /// Up to max(1, fuel) later steps of create.
     create_run = lovarntek_create_run(mut, mut, mut; record; n, fuel) -> Ran;
     /// Open's first step.
     open = lovarntek_open(mut, const, const; record;) -> Answered;
     /// A later step of open.
     open_step = lovarntek_open_step(const, const, mut; record;) -> Answered;
-    /// Up to `fuel` later steps of open.
+    /// Up to max(1, fuel) later steps of open.
     open_run = lovarntek_open_run(const, const, mut; record; fuel) -> Ran;
     /// Close, one step.
     close = lovarntek_close(mut, const, const;;) -> Answered;
@@ -101,7 +101,7 @@ calls! {
     put = lovarntek_put(const, const, const; record; cpu, frame, order) -> Answered;
     /// A step of a get or put.
     step = lovarntek_step(const, mut, mut; record;) -> Answered;
-    /// Up to `fuel` steps of a get or put.
+    /// Up to max(1, fuel) steps of a get or put.
     run = lovarntek_run(const, mut, mut; record; fuel) -> Ran;
     /// Begins a get and, if that is answered 1, makes up to `fuel` steps of it. The steps are 0 where the beginning is refused.
     get_run = lovarntek_get_run(const, mut, mut; record; cpu, order, fuel) -> Ran;

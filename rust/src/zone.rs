@@ -112,7 +112,7 @@ impl<U64: AsMut<[u64]>, U16: AsMut<[u16]>> Zone<U64, U16> {
         self.tables().step(record.lend()).into()
     }
 
-    /// Up to `fuel` steps of a get or put.
+    /// Up to max(1, fuel) steps of a get or put.
     pub fn run(&mut self, record: &mut Record, fuel: u64) -> Run {
         self.tables().run(record.lend(), fuel).into()
     }

@@ -25,7 +25,7 @@ pub enum Opening {
 
 type Made<R> = Result<Answer<R>, Refusal>;
 
-/// Up to `fuel` steps, and how many were made.
+/// Up to `fuel` steps, at least one, and how many were made.
 #[inline(always)]
 fn follow<R: Copy>(
     mut record: R,
@@ -33,7 +33,7 @@ fn follow<R: Copy>(
     mut step: impl FnMut(R) -> Made<R>,
 ) -> (Answer<R>, u64) {
     let mut steps = 0;
-    while steps < fuel {
+    while steps < fuel.max(1) {
         steps += 1;
         match settle(step(record)) {
             Answer::UnderWay(next) => record = next,
@@ -61,7 +61,7 @@ impl Tables<'_> {
         }))
     }
 
-    /// Up to `fuel` later steps of create.
+    /// Up to `fuel` later steps of create, at least one.
     #[inline(never)]
     pub fn create_run(&mut self, record: Creating, n: u64, fuel: u64) -> (Answer<Creating>, u64) {
         let mut zone = self.lend();
@@ -137,7 +137,7 @@ impl Tables<'_> {
         })
     }
 
-    /// Up to `fuel` later steps of open.
+    /// Up to `fuel` later steps of open, at least one.
     #[inline(never)]
     pub fn open_run(&mut self, record: Opening, fuel: u64) -> (Answer<Opening>, u64) {
         let mut zone = self.lend();

@@ -208,19 +208,19 @@ impl Tables<'_> {
         packed(words, answer)
     }
 
-    /// Up to `fuel` steps over the record's two words, which are read before the first one and written after the last. The answer's number and frame, and how
-    /// many steps were made.
+    /// Up to `fuel` steps, at least one, over the record's two words, which are read before the first one and written after the last. The answer's number and
+    /// frame, and how many steps were made.
     #[inline(never)]
     pub fn run_words(&mut self, words: &mut [u64; 2], fuel: u64) -> (u64, u64, u64) {
-        let (answer, steps) = self.ran(codec::decode(*words), fuel);
+        let (answer, steps) = self.ran(codec::decode(*words), fuel.max(1));
         let (number, frame) = packed(words, answer);
         (number, frame, steps)
     }
 
-    /// Up to `fuel` steps, and how many were made.
+    /// Up to `fuel` steps, at least one, and how many were made.
     #[inline(never)]
     pub fn run(&mut self, record: Record, fuel: u64) -> (Answer<Record>, u64) {
-        self.ran(record, fuel)
+        self.ran(record, fuel.max(1))
     }
 
     /// Begins a get and, if that is answered 1, makes up to `fuel` steps; how many were made.

@@ -90,7 +90,7 @@ fn run(seen: &Seen, cases: &mut Vec<String>) {
     };
     cases.push(format!("{call} with fuel: {named}"));
     let number = seen.outcome.number;
-    if number == 1 && fuel > 0 {
+    if number == 1 && !(seen.call.is_one() && fuel == 0) {
         cases.push(String::from("runs: out of fuel"));
     }
     if matches!(number, 0 | 2) {
@@ -98,9 +98,21 @@ fn run(seen: &Seen, cases: &mut Vec<String>) {
     }
     if seen.call.is_one() {
         cases.extend(one_call(seen));
-    } else if number == 1 && fuel == 0 && seen.record.is_none() {
-        cases.push(String::from("runs: handed back no record"));
+    } else if fuel == 0 {
+        cases.extend(without_fuel(seen));
     }
+}
+
+/// The record that a run with fuel 0 made its one step of.
+fn without_fuel(seen: &Seen) -> Option<String> {
+    let record = match (seen.outcome.number, seen.record) {
+        (0 | 1 | 2 | 6 | 12, _) => "good record",
+        (11, None) => "no record",
+        (11, Some(Record { stage: 0, .. })) => "finished",
+        (11, _) => "bad record",
+        _ => return None,
+    };
+    Some(format!("{} with fuel 0: {record}", seen.call.name()))
 }
 
 /// How a get or put begun and run in one call ended.

@@ -23,7 +23,7 @@ const ANSWERS: [(&str, &str); 14] = [
 ];
 
 /// What each kind of step, entry and scene may come to.
-const CASES: [(&str, &str); 86] = [
+const CASES: [(&str, &str); 89] = [
     ("own", "absent, claimed, short, 12 malformed"),
     ("take count", "taken, 12 malformed"),
     ("fill entry", "held, gone, 12 malformed, 12 sum"),
@@ -133,7 +133,19 @@ const CASES: [(&str, &str); 86] = [
     ("open_run with fuel", "0, 1, 2, more"),
     ("get_run with fuel", "0, 1, 2, more"),
     ("put_run with fuel", "0, 1, 2, more"),
-    ("runs", "out of fuel, ended, handed back no record"),
+    ("runs", "out of fuel, ended"),
+    (
+        "run with fuel 0",
+        "good record, bad record, finished, no record",
+    ),
+    (
+        "create_run with fuel 0",
+        "good record, bad record, finished, no record",
+    ),
+    (
+        "open_run with fuel 0",
+        "good record, bad record, finished, no record",
+    ),
     (
         "cut",
         "during gets and puts, inside an open, inside a create",

@@ -169,6 +169,37 @@ pub fn runs(player: &mut Player) -> Played {
     Ok(())
 }
 
+/// Runs with fuel 0: of records as they are, changed, finished, and of words that are none.
+pub fn without_fuel(player: &mut Player) -> Played {
+    let shape = sizes::any(&mut player.rng);
+    let tables = states::loose(&mut player.rng, shape);
+    player.load(tables);
+    for _ in 0..24 {
+        let number = match player.rng.below(3) {
+            0 => player
+                .rng
+                .between(stage::CREATE_WORDS.into(), stage::CREATE_HEADER.into())
+                as u8,
+            1 => player
+                .rng
+                .between(stage::OPEN_CHILDREN.into(), stage::OPEN_CPUS.into())
+                as u8,
+            _ => any_stage(player),
+        };
+        let right = states::record(&mut player.rng, shape, number);
+        let words = match player.rng.below(4) {
+            0 => right.join(),
+            1 => still_a_record(player, right, shape),
+            2 => [0, 0],
+            _ => [states::any(&mut player.rng), states::any(&mut player.rng)],
+        };
+        let mut slot = Slot::with(words.to_vec());
+        player.call(run_of(number, shape, 0), &mut slot)?;
+        player.mark_running();
+    }
+    Ok(())
+}
+
 /// Records with one field changed, records of other operations, and words that are no record.
 pub fn changed(player: &mut Player) -> Played {
     let shape = sizes::any(&mut player.rng);

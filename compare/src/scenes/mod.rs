@@ -20,7 +20,7 @@ const LARGEST_EVERY: u64 = 1_000;
 type Scene = fn(&mut Player) -> Played;
 
 /// The scenes, each with its share.
-const SCENES: [(u64, Scene); 18] = [
+const SCENES: [(u64, Scene); 19] = [
     (15, schedule::mixed),
     (8, schedule::crowded),
     (4, schedule::near),
@@ -28,6 +28,7 @@ const SCENES: [(u64, Scene); 18] = [
     (50, forged::damaged),
     (60, forged::changed),
     (20, forged::runs),
+    (20, forged::without_fuel),
     (4, forged::near),
     (70, forged::short),
     (70, defects::one),

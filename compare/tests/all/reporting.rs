@@ -2,7 +2,7 @@
 
 use compare::call::{Call, Outcome};
 use compare::difference::{self, Unequal, What};
-use compare::fault::{Fault, OneCall};
+use compare::fault::{Fault, InRuns};
 use compare::pair::{Pair, Side};
 use compare::player::{Player, Slot, Stop};
 use compare::states;
@@ -125,8 +125,8 @@ fn the_wanted_number_of_calls_is_made() {
 }
 
 /// What shows a fault of a get and a put in one call, with the given fuel.
-fn shown(fault: OneCall, call: Call, fuel: u64) -> Option<What> {
-    let fault = Some(Fault::OneCall(fault));
+fn shown(fault: InRuns, call: Call, fuel: u64) -> Option<What> {
+    let fault = Some(Fault::InRuns(fault));
     let mut pair = Pair::new(states::fresh(SHAPE), fault, Side::default());
     let (_, unequal) = pair.call(&call.in_one(fuel), &mut [7, 7]);
     unequal.map(|found| found.what)
@@ -139,32 +139,42 @@ fn faults_of_one_call_are_named() {
     let put = Call::Put { cpu, frame, order };
     let refused = Call::Get { cpu: 3, order };
     for (fault, call, fuel, what) in [
-        (OneCall::BeginCounted, get, u64::MAX, What::Steps),
-        (OneCall::BeginCounted, get, 0, What::Steps),
-        (OneCall::BeginCounted, put, 1, What::Steps),
-        (OneCall::BeginTakesFuel, get, 4, What::Steps),
-        (OneCall::BeginTakesFuel, put, 1, What::Answer),
-        (OneCall::RecordLost, get, 4, What::Record(0)),
-        (OneCall::RecordLost, put, 0, What::Record(0)),
-        (OneCall::RecordOfBegin, get, 4, What::Record(0)),
-        (OneCall::RefusedKeepsRecord, refused, 4, What::Record(0)),
-        (OneCall::RefusedRuns, refused, 4, What::Answer),
+        (InRuns::BeginCounted, get, u64::MAX, What::Steps),
+        (InRuns::BeginCounted, get, 0, What::Steps),
+        (InRuns::BeginCounted, put, 1, What::Steps),
+        (InRuns::BeginTakesFuel, get, 4, What::Steps),
+        (InRuns::BeginTakesFuel, put, 1, What::Answer),
+        (InRuns::RecordLost, get, 4, What::Record(0)),
+        (InRuns::RecordLost, put, 0, What::Record(0)),
+        (InRuns::RecordOfBegin, get, 4, What::Record(0)),
+        (InRuns::RefusedKeepsRecord, refused, 4, What::Record(0)),
+        (InRuns::RefusedRuns, refused, 4, What::Answer),
     ] {
         assert_eq!(shown(fault, call, fuel), Some(what), "{fault:?}, {call}");
     }
     for (fault, call, fuel) in [
-        (OneCall::BeginCounted, refused, 4),
-        (OneCall::BeginTakesFuel, get, u64::MAX),
-        (OneCall::RecordLost, get, u64::MAX),
-        (OneCall::RecordOfBegin, get, 0),
-        (OneCall::RefusedRuns, put, u64::MAX),
+        (InRuns::BeginCounted, refused, 4),
+        (InRuns::BeginTakesFuel, get, u64::MAX),
+        (InRuns::RecordLost, get, u64::MAX),
+        (InRuns::RecordOfBegin, get, 0),
+        (InRuns::RefusedRuns, put, u64::MAX),
     ] {
         assert_eq!(shown(fault, call, fuel), None, "{fault:?}, {call}");
     }
-    for &fault in OneCall::ALL {
+    for &fault in InRuns::ALL {
         let named = Fault::named(fault.name());
-        assert_eq!(named, Some(Fault::OneCall(fault)));
+        assert_eq!(named, Some(Fault::InRuns(fault)));
     }
+}
+
+#[test]
+fn a_run_without_fuel_makes_a_step() {
+    let fault = Some(Fault::InRuns(InRuns::NoFuelNoStep));
+    let mut pair = Pair::new(states::fresh(SHAPE), fault, Side::default());
+    let (_, unequal) = pair.call(&Call::Run { fuel: 0 }, &mut [7, 7]);
+    assert_eq!(unequal.map(|found| found.what), Some(What::Answer));
+    let (_, unequal) = pair.call(&Call::Run { fuel: 1 }, &mut [7, 7]);
+    assert_eq!(unequal.map(|found| found.what), None);
 }
 
 #[test]

@@ -11,6 +11,7 @@ use Rattle.laws.proofs.Tests.{pick-elim, pick-yes, pick-no}
 use Rattle.rules.specs.Numbers.{childFrames}
 use Rattle.rules.specs.Blocks.{size, blockAt}
 use Rattle.rules.specs.Zone.{Zone, shapeOf}
+use Rattle.rules.specs.Answers.{number}
 use Rattle.rules.specs.Plan.{Plan, refuse, Refusal, guarded}
 use Rattle.rules.specs.Checks.{notOpen}
 use Rattle.rules.specs.Begin.{isOrder, runOf, orderOf, badCpu, badOrder, badFrame, misaligned, beginGet, beginPut}
@@ -22,7 +23,7 @@ use Rattle.begins.specs.Types.{Frame, Run, Order, Giving, Record, Answer
 use Rattle.calls.specs.Results.{zone, result, done}
 use Rattle.begins.specs.Begun.{PutsBy, PutsAtBy, Puts, PutsAt}
 use Rattle.begins.specs.Orders.{orderAtIn, putOf}
-use Rattle.calls.proofs.Opened.{stores-nothing, stands, passed-by, checkedIn, checked-refused, checked-open}
+use Rattle.calls.proofs.Opened.{stores-nothing, stands, passed-by, checkedIn, checked-refused, checked-open, refused-ends}
 
 -- ---- orders
 
@@ -62,17 +63,17 @@ module _ (h w c t p : List ℕ) (cpu o : ℕ) where
   abbrev got : Plan
   got = refuse (Answer.UnderWay (Record.Get cpu (Taking.Own (orderOf o))))
 
-  pub get-refused : {a : Answer} → checkedIn h w c t p ≡ Checked.Refused a → result a z ≡ done z (beginGet z cpu o)
+  pub get-refused : {a : Answer} → checkedIn h w c t p ≡ Checked.Refused a → (2 ≤ number a) × (result a z ≡ done z (beginGet z cpu o))
   unfolding beginGet
-  get-refused e = stores-nothing z (checked-refused h w c t p e (badCpu z cpu ∷ badOrder o ∷ []) got)
+  get-refused e = (refused-ends h w c t p e, stores-nothing z (checked-refused h w c t p e (badCpu z cpu ∷ badOrder o ∷ []) got))
 
   module _ (f : Frame) where
     abbrev put : Plan
     put = refuse (Answer.UnderWay (Record.Put cpu (Giving.Clear (blockAt (orderOf o) f))))
 
-    pub put-refused : {a : Answer} → checkedIn h w c t p ≡ Checked.Refused a → result a z ≡ done z (beginPut z cpu f o)
+    pub put-refused : {a : Answer} → checkedIn h w c t p ≡ Checked.Refused a → (2 ≤ number a) × (result a z ≡ done z (beginPut z cpu f o))
     unfolding beginPut
-    put-refused e = stores-nothing z (checked-refused h w c t p e (badCpu z cpu ∷ badOrder o ∷ badFrame z f ∷ misaligned o f ∷ []) put)
+    put-refused e = (refused-ends h w c t p e, stores-nothing z (checked-refused h w c t p e (badCpu z cpu ∷ badOrder o ∷ badFrame z f ∷ misaligned o f ∷ []) put))
 
   -- past the refusals of every call
   module _ {s : Shape} (e : checkedIn h w c t p ≡ Checked.Zone s) where
@@ -123,7 +124,7 @@ module _ (h w c t p : List ℕ) (cpu o : ℕ) where
 
       -- what its order makes of it is what the beginning comes to
       put-by : cpu < s .cpus → {k : Order} → orderAtIn o ≡ OrderAt.At k → {n : ℕ} → n ≡ hugeOf (s .size) → f .0 < n * childFrames → (x : Putting) → PutsAtBy s cpu f k x → PutsBy z cpu f o x
-      put-by b n m l (Putting.Refused a) q = put-begun b n m l q
+      put-by b n m l (Putting.Refused a) q = (q .0, put-begun b n m l (q .1))
       put-by b n m l (Putting.Of g j d) q = (record { checks = e ∙ ap Checked.Zone (sym (q .0)); cpu-in = rw (q .0, q .1) b }, put-begun b n m l (q .2))
 
       pub put-at : cpu < s .cpus → {k : Order} → orderAtIn o ≡ OrderAt.At k → {n : ℕ} → n ≡ hugeOf (s .size) → f .0 < n * childFrames → {x : Putting} → PutsAt s cpu f k x → Puts z cpu f o x

@@ -12,6 +12,7 @@ use Rattle.laws.proofs.Tests.{pick-elim, pick-yes, pick-no, all-passed, fails-o
 use Rattle.rules.specs.Numbers.{mostCpus, treesOf}
 use Rattle.rules.specs.Entries.{headerSays}
 use Rattle.rules.specs.Zone.{Zone, headerOf, headerHuge, shaped, shapeOf, stored}
+use Rattle.rules.specs.Answers.{number}
 use Rattle.rules.specs.Plan.{Plan, refuse, Refusal, guarded}
 use Rattle.rules.specs.Checks.{isMalformed, isClean, headerChecks, lengthChecks, notOpen}
 use Rattle.rules.specs.declared.Header.{Header}
@@ -99,6 +100,21 @@ module _ (h w c t p : List ℕ) where
   pub checked-open : {s : Shape} → checkedIn h w c t p ≡ Checked.Zone s → (shapeOf z ≡ Shapes.shapeOf s) × ((l : List Refusal) (q : Plan) → guarded (notOpen z ++ l) q ≡ guarded l q) × Fits s w c t p
   unfolding guarded
   checked-open e = let k = subst (Tells (shapeOf z .huge) (guarded (notOpen z))) e checked-tells in (k .0, (λ l q. k .1 (guarded l q)), k .2)
+
+  -- what is refused so has ended
+  abbrev EndsRefused : Checked → Type 0
+  EndsRefused (Checked.Refused a) = 2 ≤ number a
+  EndsRefused (Checked.Zone s) = Unit {0}
+
+  by-header : (x : Zoned) → EndsRefused (checkedBy x)
+  unfolding checkedAs
+  by-header Zoned.NoHeader = omega arith
+  by-header Zoned.NotAZone = omega arith
+  by-header (Zoned.Running m) = pick-elim EndsRefused (passes (lengthsOf m (length w) (length c) (length t) (length p))) (λ b. tt) (λ b. omega arith)
+  by-header (Zoned.Clean m) = omega arith
+
+  pub refused-ends : {a : Answer} → checkedIn h w c t p ≡ Checked.Refused a → 2 ≤ number a
+  refused-ends e = subst EndsRefused e (by-header (zonedIn h))
 
 -- a header slice that says anything has one entry
 pub one-entry : (h : List ℕ) {x : Zoned} → zonedIn h ≡ x → (x ≡ Zoned.NoHeader → ⊥) → length h ≡ 1

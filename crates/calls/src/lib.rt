@@ -1,5 +1,6 @@
 // What every call on an open zone begins with, the answers that go on with a stage, and what a run goes by.
 ghost use mathlib.Core.Path.{_≡_};
+ghost use Prim.Native.Nat.{max};
 ghost use Rattle.calls.specs.Results.{checked, nextIn, wayOf};
 use entries::Zoned;
 use places::Shape;
@@ -56,6 +57,16 @@ pub fn put(cpu: u8, stage: Giving) -> Answer
 pub struct Ended {
     pub answer: Answer,
     pub steps: u64,
+}
+
+// The steps that a run may make: a fuel of 0 counts as 1, so that every answer of a run is a step's.
+pub fn at_least_one(fuel: u64) -> u64
+    ensures { λ r. ⌜ r ≡ max 1 fuel ⌝ }
+{
+    if fuel == 0 {
+        return 1;
+    }
+    fuel
 }
 
 // The record that an answer goes on with.

@@ -1,4 +1,4 @@
--- A call on a record slice of its length and of another; one step of a run.
+-- A call on a record slice of its length and of another.
 use mathlib.Core.Path.{_≡_, refl, sym, ap, ap₂, subst, _∙_}
 use mathlib.Core.Logic.{_≢_}
 use mathlib.Core.Bool.{Bool, true, false, not}
@@ -71,15 +71,6 @@ module _ (a : Answer) (l : List ℕ) {m : Next} (n : m ≡ nextIn a) {l′ : Lis
 
 -- ---- one call, and a run
 
--- what is answered, without the steps
-abbrev stepless : Called Ran → Called Answered
-stepless o = called (record { number = o .said .number; frame = o .said .frame }) (o .zone) (o .rec)
-
-stepless-pick : (b : Bool) (x y : Called Ran) → stepless (pick b x y) ≡ pick b (stepless x) (stepless y)
-unfolding pick
-stepless-pick true x y = refl
-stepless-pick false x y = refl
-
 module _ (e : Answer) (z : Zone) (l : List ℕ) where
   pub made-not : (p : Plan) {a : Answer} {s : Answered} → length l ≢ 2 → a ≡ e → s ≡ answeredAs a → called s z l ≡ made e z l p
   unfolding made
@@ -102,11 +93,6 @@ module _ (e : Answer) (z : Zone) (l : List ℕ) where
   unfolding followed
   followed-on x z′ n q t = t ∙ pick-yes _ _ _ (eq-eqb _ _ n) ∙ ap (λ (o : rules.Ran). called (ranAs (o .answer) (o .steps)) (o .zone) (handedBack (o .answer) l)) q ∙ sym (pick-yes _ _ _ (eq-eqb _ _ n))
 
-  -- a run of one step is that step
-  pub one-step : (f : Zone → Record → Plan) (r : Record) {s : Ran} {z′ : Zone} {l′ : List ℕ} → called s z′ l′ ≡ followed e z l (rules.follow f 1 0 (Answer.UnderWay r) z) → called (record { number = s .number; frame = s .frame }) z′ l′ ≡ made e z l (f z r)
-  unfolding followed made rules.follow
-  one-step f r q = ap stepless q ∙ stepless-pick (eqb (length l) 2) _ _
-
 -- the run of the record that is lent
 pub lent : (f : Zone → Record → Plan) (n : ℕ) (z : Zone) {r s : Record} → r ≡ s → rules.follow f n 0 (Answer.UnderWay r) z ≡ rules.follow f n 0 (Answer.UnderWay s) z
 lent f n z e = ap (λ r. rules.follow f n 0 (Answer.UnderWay r) z) e
@@ -120,8 +106,12 @@ pub made-alone : (z : Zone) (p : Plan) {a : Answer} {z′ : Zone} {s : Answered}
 made-alone z p {a} {z′} q t = ap (λ v. called v z′ []) t ∙ ap (λ (o : Result). called (answeredAs (o .answer)) (o .zone) []) q
 
 -- number, frame and steps, with the record
-pub same-run : (a : Answer) {n f k : ℕ} {l m : List ℕ} → n ≡ number a → f ≡ frameOf a → l ≡ m → outcome (record { number = n; frame = f; steps = k }) l ≡ outcome (ranAs a k) m
-same-run a {k = k} p q h = rw (p, q, h) refl
+pub run-told : (a : Answer) {n f k : ℕ} {l m : List ℕ} → n ≡ number a → f ≡ frameOf a → l ≡ m → outcome (record { number = n; frame = f; steps = k }) l ≡ outcome (ranAs a k) m
+run-told a {k = k} p q h = rw (p, q, h) refl
+
+-- two results that a call's contract permits are equal: what is said, the tables, the record slice
+pub same-called : {A : Type 0} (o : Called A) (a b : A) (z y : Zone) (l m : List ℕ) → called a z l ≡ o → called b y m ≡ o → (a ≡ b) × (z ≡ y) × (l ≡ m)
+same-called {A} o a b z y l m p q = (ap (λ (x : Called A). x .said) (p ∙ sym q), ap (λ (x : Called A). x .zone) (p ∙ sym q), ap (λ (x : Called A). x .rec) (p ∙ sym q))
 
 -- ---- what comes before 8
 

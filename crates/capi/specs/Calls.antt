@@ -1,7 +1,7 @@
 -- A call as C makes it: what is answered, the tables, and the record as it is left.
 use mathlib.Core.Bool.{Bool}
 use mathlib.Core.List.{List, [], _∷_}
-use Prim.Native.Nat.{ℕ}
+use Prim.Native.Nat.{ℕ, max}
 use lib.Dec.{eqb}
 use lib.ListN.{length, getD}
 use Rattle.laws.specs.Tests.{pick, passes}
@@ -10,7 +10,10 @@ use Rattle.rules.specs.Zone.{Zone, headerOf}
 use Rattle.rules.specs.Answers.{number, frameOf, recordOf}
 use Rattle.rules.specs.Plan.{Plan, refuse, on, guarded}
 use Rattle.rules.specs.Checks.{unless, isClean, noHeader, notAZone}
-use Rattle.rules.specs.Create.{sizeChecks}
+use Rattle.rules.specs.Conversions.{frame}
+use Rattle.rules.specs.Begin.{beginGet, beginPut}
+use Rattle.rules.specs.Create.{sizeChecks, createZone, createStep}
+use Rattle.rules.specs.Open.{openZone, openStep, closeZone}
 use Rattle.rules.specs.Step as rules
 use Rattle.calls.specs.Results.{zone}
 use Rattle.records.specs.Encoding.{encode}
@@ -81,6 +84,49 @@ followed e z l x = pick (isRecord l) (called (ranAs (x .answer) (x .steps)) (x .
 -- a call without a record
 abbrev pub madeAlone : Zone → Plan → Called Answered
 madeAlone z p = called (answeredAs (p .answer)) (rules.after z p) []
+
+-- ---- the exported calls, on a zone's tables z and a record slice l; a call that goes on makes at least one step, one that begins and goes on may make none
+
+module _ (z : Zone) (l : List ℕ) where
+  abbrev pub getCall : ℕ → ℕ → Called Answered
+  getCall cpu order = made (noRecord Answer.Closed (z .header)) z l (beginGet z cpu order)
+
+  abbrev pub putCall : ℕ → ℕ → ℕ → Called Answered
+  putCall cpu first order = made (noRecord Answer.Closed (z .header)) z l (beginPut z cpu (frame first) order)
+
+  abbrev pub stepCall : Called Answered
+  stepCall = made (noRecord Answer.Closed (z .header)) z l (rules.step z (lentIn l))
+
+  abbrev pub runCall : ℕ → Called Ran
+  runCall fuel = followed (noRecord Answer.Closed (z .header)) z l (rules.runs (max 1 fuel) z (lentIn l))
+
+  abbrev pub getRunCall : ℕ → ℕ → ℕ → Called Ran
+  getRunCall cpu order fuel = followed (noRecord Answer.Closed (z .header)) z l (rules.follow rules.step fuel 0 (beginGet z cpu order .answer) z)
+
+  abbrev pub putRunCall : ℕ → ℕ → ℕ → ℕ → Called Ran
+  putRunCall cpu first order fuel = followed (noRecord Answer.Closed (z .header)) z l (rules.follow rules.step fuel 0 (beginPut z cpu (frame first) order .answer) z)
+
+  -- create is given n beside the record
+  abbrev pub createCall : ℕ → Called Answered
+  createCall n = made (noCreateRecord n) z l (createZone n z)
+
+  abbrev pub createStepCall : ℕ → Called Answered
+  createStepCall n = made (noCreateRecord n) z l (createStep n z (lentIn l))
+
+  abbrev pub createRunCall : ℕ → ℕ → Called Ran
+  createRunCall n fuel = followed (noCreateRecord n) z l (rules.follow (createStep n) (max 1 fuel) 0 (Answer.UnderWay (lentIn l)) z)
+
+  abbrev pub openCall : Called Answered
+  openCall = made (noRecord Answer.BadBuffers (z .header)) z l (openZone z)
+
+  abbrev pub openStepCall : Called Answered
+  openStepCall = made (noRecord Answer.Closed (z .header)) z l (openStep z (lentIn l))
+
+  abbrev pub openRunCall : ℕ → Called Ran
+  openRunCall fuel = followed (noRecord Answer.Closed (z .header)) z l (rules.follow openStep (max 1 fuel) 0 (Answer.UnderWay (lentIn l)) z)
+
+abbrev pub closeCall : Zone → Called Answered
+closeCall z = madeAlone z (closeZone z)
 
 -- ---- lengths, where there is a zone of n huge frames
 

@@ -9,13 +9,11 @@ ghost use lib.ListN.{length};
 ghost use Rattle.laws.specs.Tests.{passes};
 ghost use Rattle.laws.specs.Tables.{outcome};
 ghost use Rattle.rules.specs.Numbers.{childWords};
-ghost use Rattle.rules.specs.Conversions.{frame};
-ghost use Rattle.rules.specs.Begin.{beginGet, beginPut};
-ghost use Rattle.rules.specs.Step.{step, runs, follow};
-ghost use Rattle.rules.specs.Create.{sizeChecks, createZone, createStep};
-ghost use Rattle.rules.specs.Open.{openZone, openStep, closeZone};
+ghost use Rattle.rules.specs.Step.{step, follow};
+ghost use Rattle.rules.specs.Create.{sizeChecks};
+ghost use Rattle.rules.specs.Open.{closeZone};
 ghost use Rattle.calls.specs.Results.{zone};
-ghost use Rattle.capi.specs.Calls.{recordWords, answeredAs, ranAs, lentIn, laid, handedBack, noRecord, noCreateRecord, called, made, followed, madeAlone, lengthFor, treesFor};
+ghost use Rattle.capi.specs.Calls.{recordWords, answeredAs, ranAs, laid, handedBack, noRecord, noCreateRecord, called, followed, lengthFor, treesFor, getCall, putCall, stepCall, runCall, getRunCall, putRunCall, createCall, createStepCall, createRunCall, openCall, openStepCall, openRunCall, closeCall};
 use calls::Next;
 use calls::Way;
 use entries::Zoned;
@@ -197,7 +195,7 @@ pub extern "C" fn lovarntek_get(
     cpu: u64,
     order: u64,
 ) -> Answered
-    ensures { λ r. ⌜ called r (zone (now (header .entry)) (now (words .entry)) (now (children .entry)) (now (trees .entry)) (now (cpus .entry))) (now (rec .exit)) ≡ made (noRecord Answer.Closed (now (header .entry))) (zone (now (header .entry)) (now (words .entry)) (now (children .entry)) (now (trees .entry)) (now (cpus .entry))) (now (rec .entry)) (beginGet (zone (now (header .entry)) (now (words .entry)) (now (children .entry)) (now (trees .entry)) (now (cpus .entry))) cpu order) ⌝ }
+    ensures { λ r. ⌜ called r (zone (now (header .entry)) (now (words .entry)) (now (children .entry)) (now (trees .entry)) (now (cpus .entry))) (now (rec .exit)) ≡ getCall (zone (now (header .entry)) (now (words .entry)) (now (children .entry)) (now (trees .entry)) (now (cpus .entry))) (now (rec .entry)) cpu order ⌝ }
 {
     if rec.len() != RECORD {
         return told(no_record(header, Answer::Closed));
@@ -219,7 +217,7 @@ pub extern "C" fn lovarntek_put(
     first: u64,
     order: u64,
 ) -> Answered
-    ensures { λ r. ⌜ called r (zone (now (header .entry)) (now (words .entry)) (now (children .entry)) (now (trees .entry)) (now (cpus .entry))) (now (rec .exit)) ≡ made (noRecord Answer.Closed (now (header .entry))) (zone (now (header .entry)) (now (words .entry)) (now (children .entry)) (now (trees .entry)) (now (cpus .entry))) (now (rec .entry)) (beginPut (zone (now (header .entry)) (now (words .entry)) (now (children .entry)) (now (trees .entry)) (now (cpus .entry))) cpu (frame first) order) ⌝ }
+    ensures { λ r. ⌜ called r (zone (now (header .entry)) (now (words .entry)) (now (children .entry)) (now (trees .entry)) (now (cpus .entry))) (now (rec .exit)) ≡ putCall (zone (now (header .entry)) (now (words .entry)) (now (children .entry)) (now (trees .entry)) (now (cpus .entry))) (now (rec .entry)) cpu first order ⌝ }
 {
     if rec.len() != RECORD {
         return told(no_record(header, Answer::Closed));
@@ -247,7 +245,7 @@ pub extern "C" fn lovarntek_step(
     cpus: &mut [u64],
     rec: &mut [u64],
 ) -> Answered
-    ensures { λ r. ⌜ called r (zone (now (header .entry)) (now (words .exit)) (now (children .exit)) (now (trees .exit)) (now (cpus .exit))) (now (rec .exit)) ≡ made (noRecord Answer.Closed (now (header .entry))) (zone (now (header .entry)) (now (words .entry)) (now (children .entry)) (now (trees .entry)) (now (cpus .entry))) (now (rec .entry)) (step (zone (now (header .entry)) (now (words .entry)) (now (children .entry)) (now (trees .entry)) (now (cpus .entry))) (lentIn (now (rec .entry)))) ⌝ }
+    ensures { λ r. ⌜ called r (zone (now (header .entry)) (now (words .exit)) (now (children .exit)) (now (trees .exit)) (now (cpus .exit))) (now (rec .exit)) ≡ stepCall (zone (now (header .entry)) (now (words .entry)) (now (children .entry)) (now (trees .entry)) (now (cpus .entry))) (now (rec .entry)) ⌝ }
 {
     if rec.len() != RECORD {
         return told(no_record(header, Answer::Closed));
@@ -268,7 +266,7 @@ pub extern "C" fn lovarntek_run(
     rec: &mut [u64],
     fuel: u64,
 ) -> Ran
-    ensures { λ r. ⌜ called r (zone (now (header .entry)) (now (words .exit)) (now (children .exit)) (now (trees .exit)) (now (cpus .exit))) (now (rec .exit)) ≡ followed (noRecord Answer.Closed (now (header .entry))) (zone (now (header .entry)) (now (words .entry)) (now (children .entry)) (now (trees .entry)) (now (cpus .entry))) (now (rec .entry)) (runs fuel (zone (now (header .entry)) (now (words .entry)) (now (children .entry)) (now (trees .entry)) (now (cpus .entry))) (lentIn (now (rec .entry)))) ⌝ }
+    ensures { λ r. ⌜ called r (zone (now (header .entry)) (now (words .exit)) (now (children .exit)) (now (trees .exit)) (now (cpus .exit))) (now (rec .exit)) ≡ runCall (zone (now (header .entry)) (now (words .entry)) (now (children .entry)) (now (trees .entry)) (now (cpus .entry))) (now (rec .entry)) fuel ⌝ }
 {
     if rec.len() != RECORD {
         return told_run(rec, no_record(header, Answer::Closed), 0);
@@ -291,7 +289,7 @@ pub extern "C" fn lovarntek_get_run(
     order: u64,
     fuel: u64,
 ) -> Ran
-    ensures { λ r. ⌜ called r (zone (now (header .entry)) (now (words .exit)) (now (children .exit)) (now (trees .exit)) (now (cpus .exit))) (now (rec .exit)) ≡ followed (noRecord Answer.Closed (now (header .entry))) (zone (now (header .entry)) (now (words .entry)) (now (children .entry)) (now (trees .entry)) (now (cpus .entry))) (now (rec .entry)) (follow step fuel 0 (beginGet (zone (now (header .entry)) (now (words .entry)) (now (children .entry)) (now (trees .entry)) (now (cpus .entry))) cpu order .answer) (zone (now (header .entry)) (now (words .entry)) (now (children .entry)) (now (trees .entry)) (now (cpus .entry)))) ⌝ }
+    ensures { λ r. ⌜ called r (zone (now (header .entry)) (now (words .exit)) (now (children .exit)) (now (trees .exit)) (now (cpus .exit))) (now (rec .exit)) ≡ getRunCall (zone (now (header .entry)) (now (words .entry)) (now (children .entry)) (now (trees .entry)) (now (cpus .entry))) (now (rec .entry)) cpu order fuel ⌝ }
 {
     if rec.len() != RECORD {
         return told_run(rec, no_record(header, Answer::Closed), 0);
@@ -328,7 +326,7 @@ pub extern "C" fn lovarntek_put_run(
     order: u64,
     fuel: u64,
 ) -> Ran
-    ensures { λ r. ⌜ called r (zone (now (header .entry)) (now (words .exit)) (now (children .exit)) (now (trees .exit)) (now (cpus .exit))) (now (rec .exit)) ≡ followed (noRecord Answer.Closed (now (header .entry))) (zone (now (header .entry)) (now (words .entry)) (now (children .entry)) (now (trees .entry)) (now (cpus .entry))) (now (rec .entry)) (follow step fuel 0 (beginPut (zone (now (header .entry)) (now (words .entry)) (now (children .entry)) (now (trees .entry)) (now (cpus .entry))) cpu (frame first) order .answer) (zone (now (header .entry)) (now (words .entry)) (now (children .entry)) (now (trees .entry)) (now (cpus .entry)))) ⌝ }
+    ensures { λ r. ⌜ called r (zone (now (header .entry)) (now (words .exit)) (now (children .exit)) (now (trees .exit)) (now (cpus .exit))) (now (rec .exit)) ≡ putRunCall (zone (now (header .entry)) (now (words .entry)) (now (children .entry)) (now (trees .entry)) (now (cpus .entry))) (now (rec .entry)) cpu first order fuel ⌝ }
 {
     if rec.len() != RECORD {
         return told_run(rec, no_record(header, Answer::Closed), 0);
@@ -374,7 +372,7 @@ pub extern "C" fn lovarntek_create(
     rec: &mut [u64],
     n: u64,
 ) -> Answered
-    ensures { λ r. ⌜ called r (zone (now (header .exit)) (now (words .entry)) (now (children .entry)) (now (trees .entry)) (now (cpus .entry))) (now (rec .exit)) ≡ made (noCreateRecord n) (zone (now (header .entry)) (now (words .entry)) (now (children .entry)) (now (trees .entry)) (now (cpus .entry))) (now (rec .entry)) (createZone n (zone (now (header .entry)) (now (words .entry)) (now (children .entry)) (now (trees .entry)) (now (cpus .entry)))) ⌝ }
+    ensures { λ r. ⌜ called r (zone (now (header .exit)) (now (words .entry)) (now (children .entry)) (now (trees .entry)) (now (cpus .entry))) (now (rec .exit)) ≡ createCall (zone (now (header .entry)) (now (words .entry)) (now (children .entry)) (now (trees .entry)) (now (cpus .entry))) (now (rec .entry)) n ⌝ }
 {
     if rec.len() != RECORD {
         return told(no_create_record(n));
@@ -382,28 +380,6 @@ pub extern "C" fn lovarntek_create(
     let answer = creating::create(header, words, children, trees, cpus, n);
     hand_back(rec, answer);
     told(answer)
-}
-
-// The one way into create's later steps.
-fn create_on(
-    header: &mut [u64],
-    words: &mut [u64],
-    children: &mut [u16],
-    trees: &mut [u16],
-    cpus: &mut [u64],
-    rec: &mut [u64],
-    n: u64,
-    fuel: u64,
-) -> Ran
-    ensures { λ r. ⌜ called r (zone (now (header .exit)) (now (words .exit)) (now (children .exit)) (now (trees .exit)) (now (cpus .exit))) (now (rec .exit)) ≡ followed (noCreateRecord n) (zone (now (header .entry)) (now (words .entry)) (now (children .entry)) (now (trees .entry)) (now (cpus .entry))) (now (rec .entry)) (follow (createStep n) fuel 0 (Answer.UnderWay (lentIn (now (rec .entry)))) (zone (now (header .entry)) (now (words .entry)) (now (children .entry)) (now (trees .entry)) (now (cpus .entry)))) ⌝ }
-{
-    if rec.len() != RECORD {
-        return told_run(rec, no_create_record(n), 0);
-    }
-    let given = records::decode(rec[0], rec[1]);
-    let ended = creating::run(header, words, children, trees, cpus, n, given, fuel);
-    let answer = ended.answer;
-    told_run(rec, answer, ended.steps)
 }
 
 #[no_mangle]
@@ -416,13 +392,15 @@ pub extern "C" fn lovarntek_create_step(
     rec: &mut [u64],
     n: u64,
 ) -> Answered
-    ensures { λ r. ⌜ called r (zone (now (header .exit)) (now (words .exit)) (now (children .exit)) (now (trees .exit)) (now (cpus .exit))) (now (rec .exit)) ≡ made (noCreateRecord n) (zone (now (header .entry)) (now (words .entry)) (now (children .entry)) (now (trees .entry)) (now (cpus .entry))) (now (rec .entry)) (createStep n (zone (now (header .entry)) (now (words .entry)) (now (children .entry)) (now (trees .entry)) (now (cpus .entry))) (lentIn (now (rec .entry)))) ⌝ }
+    ensures { λ r. ⌜ called r (zone (now (header .exit)) (now (words .exit)) (now (children .exit)) (now (trees .exit)) (now (cpus .exit))) (now (rec .exit)) ≡ createStepCall (zone (now (header .entry)) (now (words .entry)) (now (children .entry)) (now (trees .entry)) (now (cpus .entry))) (now (rec .entry)) n ⌝ }
 {
-    let ran = create_on(header, words, children, trees, cpus, rec, n, 1);
-    Answered {
-        number: ran.number,
-        frame: ran.frame,
+    if rec.len() != RECORD {
+        return told(no_create_record(n));
     }
+    let given = records::decode(rec[0], rec[1]);
+    let answer = creating::create_step(header, words, children, trees, cpus, n, given);
+    hand_back(rec, answer);
+    told(answer)
 }
 
 #[no_mangle]
@@ -436,9 +414,15 @@ pub extern "C" fn lovarntek_create_run(
     n: u64,
     fuel: u64,
 ) -> Ran
-    ensures { λ r. ⌜ called r (zone (now (header .exit)) (now (words .exit)) (now (children .exit)) (now (trees .exit)) (now (cpus .exit))) (now (rec .exit)) ≡ followed (noCreateRecord n) (zone (now (header .entry)) (now (words .entry)) (now (children .entry)) (now (trees .entry)) (now (cpus .entry))) (now (rec .entry)) (follow (createStep n) fuel 0 (Answer.UnderWay (lentIn (now (rec .entry)))) (zone (now (header .entry)) (now (words .entry)) (now (children .entry)) (now (trees .entry)) (now (cpus .entry)))) ⌝ }
+    ensures { λ r. ⌜ called r (zone (now (header .exit)) (now (words .exit)) (now (children .exit)) (now (trees .exit)) (now (cpus .exit))) (now (rec .exit)) ≡ createRunCall (zone (now (header .entry)) (now (words .entry)) (now (children .entry)) (now (trees .entry)) (now (cpus .entry))) (now (rec .entry)) n fuel ⌝ }
 {
-    create_on(header, words, children, trees, cpus, rec, n, fuel)
+    if rec.len() != RECORD {
+        return told_run(rec, no_create_record(n), 0);
+    }
+    let given = records::decode(rec[0], rec[1]);
+    let ended = creating::run(header, words, children, trees, cpus, n, given, fuel);
+    let answer = ended.answer;
+    told_run(rec, answer, ended.steps)
 }
 
 // ---- open
@@ -452,7 +436,7 @@ pub extern "C" fn lovarntek_open(
     cpus: &[u64],
     rec: &mut [u64],
 ) -> Answered
-    ensures { λ r. ⌜ called r (zone (now (header .exit)) (now (words .entry)) (now (children .entry)) (now (trees .entry)) (now (cpus .entry))) (now (rec .exit)) ≡ made (noRecord Answer.BadBuffers (now (header .entry))) (zone (now (header .entry)) (now (words .entry)) (now (children .entry)) (now (trees .entry)) (now (cpus .entry))) (now (rec .entry)) (openZone (zone (now (header .entry)) (now (words .entry)) (now (children .entry)) (now (trees .entry)) (now (cpus .entry)))) ⌝ }
+    ensures { λ r. ⌜ called r (zone (now (header .exit)) (now (words .entry)) (now (children .entry)) (now (trees .entry)) (now (cpus .entry))) (now (rec .exit)) ≡ openCall (zone (now (header .entry)) (now (words .entry)) (now (children .entry)) (now (trees .entry)) (now (cpus .entry))) (now (rec .entry)) ⌝ }
 {
     if rec.len() != RECORD {
         return told(no_record(header, Answer::BadBuffers));
@@ -460,27 +444,6 @@ pub extern "C" fn lovarntek_open(
     let answer = opening::open(header, words, children, trees, cpus);
     hand_back(rec, answer);
     told(answer)
-}
-
-// The one way into open's later steps.
-fn open_on(
-    header: &[u64],
-    words: &[u64],
-    children: &mut [u16],
-    trees: &mut [u16],
-    cpus: &mut [u64],
-    rec: &mut [u64],
-    fuel: u64,
-) -> Ran
-    ensures { λ r. ⌜ called r (zone (now (header .entry)) (now (words .entry)) (now (children .exit)) (now (trees .exit)) (now (cpus .exit))) (now (rec .exit)) ≡ followed (noRecord Answer.Closed (now (header .entry))) (zone (now (header .entry)) (now (words .entry)) (now (children .entry)) (now (trees .entry)) (now (cpus .entry))) (now (rec .entry)) (follow openStep fuel 0 (Answer.UnderWay (lentIn (now (rec .entry)))) (zone (now (header .entry)) (now (words .entry)) (now (children .entry)) (now (trees .entry)) (now (cpus .entry)))) ⌝ }
-{
-    if rec.len() != RECORD {
-        return told_run(rec, no_record(header, Answer::Closed), 0);
-    }
-    let given = records::decode(rec[0], rec[1]);
-    let ended = opening::run(header, words, children, trees, cpus, given, fuel);
-    let answer = ended.answer;
-    told_run(rec, answer, ended.steps)
 }
 
 #[no_mangle]
@@ -492,13 +455,15 @@ pub extern "C" fn lovarntek_open_step(
     cpus: &mut [u64],
     rec: &mut [u64],
 ) -> Answered
-    ensures { λ r. ⌜ called r (zone (now (header .entry)) (now (words .entry)) (now (children .exit)) (now (trees .exit)) (now (cpus .exit))) (now (rec .exit)) ≡ made (noRecord Answer.Closed (now (header .entry))) (zone (now (header .entry)) (now (words .entry)) (now (children .entry)) (now (trees .entry)) (now (cpus .entry))) (now (rec .entry)) (openStep (zone (now (header .entry)) (now (words .entry)) (now (children .entry)) (now (trees .entry)) (now (cpus .entry))) (lentIn (now (rec .entry)))) ⌝ }
+    ensures { λ r. ⌜ called r (zone (now (header .entry)) (now (words .entry)) (now (children .exit)) (now (trees .exit)) (now (cpus .exit))) (now (rec .exit)) ≡ openStepCall (zone (now (header .entry)) (now (words .entry)) (now (children .entry)) (now (trees .entry)) (now (cpus .entry))) (now (rec .entry)) ⌝ }
 {
-    let ran = open_on(header, words, children, trees, cpus, rec, 1);
-    Answered {
-        number: ran.number,
-        frame: ran.frame,
+    if rec.len() != RECORD {
+        return told(no_record(header, Answer::Closed));
     }
+    let given = records::decode(rec[0], rec[1]);
+    let answer = opening::open_step(header, words, children, trees, cpus, given);
+    hand_back(rec, answer);
+    told(answer)
 }
 
 #[no_mangle]
@@ -511,9 +476,15 @@ pub extern "C" fn lovarntek_open_run(
     rec: &mut [u64],
     fuel: u64,
 ) -> Ran
-    ensures { λ r. ⌜ called r (zone (now (header .entry)) (now (words .entry)) (now (children .exit)) (now (trees .exit)) (now (cpus .exit))) (now (rec .exit)) ≡ followed (noRecord Answer.Closed (now (header .entry))) (zone (now (header .entry)) (now (words .entry)) (now (children .entry)) (now (trees .entry)) (now (cpus .entry))) (now (rec .entry)) (follow openStep fuel 0 (Answer.UnderWay (lentIn (now (rec .entry)))) (zone (now (header .entry)) (now (words .entry)) (now (children .entry)) (now (trees .entry)) (now (cpus .entry)))) ⌝ }
+    ensures { λ r. ⌜ called r (zone (now (header .entry)) (now (words .entry)) (now (children .exit)) (now (trees .exit)) (now (cpus .exit))) (now (rec .exit)) ≡ openRunCall (zone (now (header .entry)) (now (words .entry)) (now (children .entry)) (now (trees .entry)) (now (cpus .entry))) (now (rec .entry)) fuel ⌝ }
 {
-    open_on(header, words, children, trees, cpus, rec, fuel)
+    if rec.len() != RECORD {
+        return told_run(rec, no_record(header, Answer::Closed), 0);
+    }
+    let given = records::decode(rec[0], rec[1]);
+    let ended = opening::run(header, words, children, trees, cpus, given, fuel);
+    let answer = ended.answer;
+    told_run(rec, answer, ended.steps)
 }
 
 // ---- close
@@ -526,7 +497,7 @@ pub extern "C" fn lovarntek_close(
     trees: &[u16],
     cpus: &[u64],
 ) -> Answered
-    ensures { λ r. ⌜ called r (zone (now (header .exit)) (now (words .entry)) (now (children .entry)) (now (trees .entry)) (now (cpus .entry))) [] ≡ madeAlone (zone (now (header .entry)) (now (words .entry)) (now (children .entry)) (now (trees .entry)) (now (cpus .entry))) (closeZone (zone (now (header .entry)) (now (words .entry)) (now (children .entry)) (now (trees .entry)) (now (cpus .entry)))) ⌝ }
+    ensures { λ r. ⌜ called r (zone (now (header .exit)) (now (words .entry)) (now (children .entry)) (now (trees .entry)) (now (cpus .entry))) [] ≡ closeCall (zone (now (header .entry)) (now (words .entry)) (now (children .entry)) (now (trees .entry)) (now (cpus .entry))) ⌝ }
 {
     told(closing::close(header, words, children, trees, cpus))
 }

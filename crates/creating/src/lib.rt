@@ -2,7 +2,7 @@
 ghost use mathlib.Core.Path.{_≡_};
 ghost use mathlib.Core.List.{[]};
 ghost use Rattle.laws.specs.Tests.{Passes};
-ghost use Prim.Native.Nat.{_*_, _<_};
+ghost use Prim.Native.Nat.{_*_, _<_, max};
 ghost use lib.ListN.{length};
 ghost use Rattle.rules.specs.Numbers.{childWords, treesOf};
 ghost use Rattle.entries.specs.Sizes.{hugeOf};
@@ -236,7 +236,7 @@ pub fn create_step(
 
 // ---- runs
 
-// Up to `fuel` later steps of create in one call, counted. Out of steps it answers 1 with the record. A refused step stores nothing: the tables are
+// Up to `fuel` later steps of create in one call, one at least, counted. Out of steps it answers 1 with the record. A refused step stores nothing: the tables are
 // those after the last good step. For memory without cuts: a cut is admitted between calls only, and memory that survives one is driven by single steps.
 pub fn run(
     header: &mut [u64],
@@ -248,11 +248,12 @@ pub fn run(
     rec: Record,
     fuel: u64,
 ) -> Ended
-    ensures { λ r. ⌜ ranTo r (zone (now (header .exit)) (now (words .exit)) (now (children .exit)) (now (trees .exit)) (now (cpus .exit))) ≡ follow (createStep huge) fuel 0 (Answer.UnderWay rec) (zone (now (header .entry)) (now (words .entry)) (now (children .entry)) (now (trees .entry)) (now (cpus .entry))) ⌝ }
+    ensures { λ r. ⌜ ranTo r (zone (now (header .exit)) (now (words .exit)) (now (children .exit)) (now (trees .exit)) (now (cpus .exit))) ≡ follow (createStep huge) (max 1 fuel) 0 (Answer.UnderWay rec) (zone (now (header .entry)) (now (words .entry)) (now (children .entry)) (now (trees .entry)) (now (cpus .entry))) ⌝ }
 {
+    let most = calls::at_least_one(fuel);
     let mut at = rec;
     let mut steps: u64 = 0;
-    while steps < fuel {
+    while steps < most {
         let answer = create_step(header, words, children, trees, cpus, huge, at);
         steps += 1;
         match calls::next_of(answer) {

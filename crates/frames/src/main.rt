@@ -5,7 +5,7 @@ ghost use Prim.Native.Nat.{_≤_};
 ghost use Rattle.rules.specs.Create.{createZone, createStep};
 ghost use Rattle.rules.specs.Step.{step, follow, after};
 ghost use Rattle.calls.specs.Results.{zone, ranTo};
-ghost use Rattle.frames.specs.Requests.{fuel, begunBy};
+ghost use Rattle.frames.specs.Requests.{fuel, begunBy, replied};
 use calls::Ended;
 use calls::Next;
 use libc::STDIN_FILENO;
@@ -251,7 +251,9 @@ fn reply(
     line: Line,
     buffer: &mut [u8; 65536],
     out: Out,
-) -> Replied {
+) -> Replied
+    ensures { λ r. ⌜ zone (now (header .entry)) (now (words .exit)) (now (children .exit)) (now (trees .exit)) (now (cpus .exit)) ≡ replied (zone (now (header .entry)) (now (words .entry)) (now (children .entry)) (now (trees .entry)) (now (cpus .entry))) line ⌝ }
+{
     let Begun::Answered(answer) = begin(header, words, children, trees, cpus, line) else {
         return Replied::Ends(out);
     };

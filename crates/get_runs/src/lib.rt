@@ -1,5 +1,5 @@
 // A get from its first stage on, in one call: the own entry, the search of its tree, the last step. Where another stage follows, the record is handed back.
-// A stage's answer is the one that the rules give it; no record is made between the stages.
+// A function answers where the get stands after the stages that it made; no answer and no record is made between the stages.
 ghost use mathlib.Core.Path.{_≡_};
 ghost use Rattle.laws.specs.Tests.{Passes};
 ghost use Rattle.laws.specs.Tables.{outcome};

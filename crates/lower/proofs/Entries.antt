@@ -12,8 +12,7 @@ use Rattle.laws.proofs.Tests.{pick-yes, pick-no, passes-of, fails-of}
 use Rattle.laws.proofs.Fields.{masked, joined, shifted}
 use Rattle.rules.specs.Numbers.{childFrames}
 use Rattle.rules.specs.Entries.{field}
-use Rattle.rules.specs.Lower.{childLayout, childSays, byChild, countIn}
-use Rattle.rules.proofs.Fields.{count-fits}
+use Rattle.rules.specs.Lower.{childLayout, childSays}
 use Rattle.lower.specs.Types.{Fields, ChildEntry}
 use Rattle.lower.specs.Steps.{fieldsOf}
 
@@ -64,13 +63,3 @@ module _ (f : Fields) where
 
   pub says-damaged : (Passes (counts f) → ⊥) → (Passes (flags f) → ⊥) → ChildEntry.Damaged ≡ saidBy f
   says-damaged p q = sym (pick-no _ _ _ (fails-of (counts f) p) ∙ pick-no _ _ _ (fails-of (flags f) q))
-
--- an entry counts a child's frames at most
-pub count-few : (x : ℕ) → countIn x ≤ childFrames
-unfolding countIn byChild
-count-few x = go (childSays x) refl
-  where
-    go : (e : ChildEntry) → childSays x ≡ e → byChild e 0 (λ k. k) 0 ≤ childFrames
-    go ChildEntry.Damaged e = omega arith
-    go (ChildEntry.Counts k) e = count-fits x k e
-    go ChildEntry.Flagged e = omega arith

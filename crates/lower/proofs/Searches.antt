@@ -192,3 +192,7 @@ module _ {s : ℕ} {cs₀ ws₀ cs ws : List ℕ} {start n c t : ℕ} {found : S
             let z : 8 - w ≡ 0 = omega arith in
             next-turn (j .none-yet) (step-length (giveCount s) m c x ∙ step-length (claim s) cs c e) (j .same-words)
             (turn-taken s cs ws c _ e p ∙ j .left _ ∙ rw (z, words-end, ← x, j .same-words) refl)
+
+-- ---- two results that the search's contract permits are equal
+pub same-search : (o : Search) (f g : Searched) (cs ds ws vs : List ℕ) → search f cs ws ≡ o → search g ds vs ≡ o → (f ≡ g) × (cs ≡ ds) × (ws ≡ vs)
+same-search o f g cs ds ws vs p q = (ap (λ (x : Search). x .found) (p ∙ sym q), ap (λ (x : Search). x .children) (p ∙ sym q), ap (λ (x : Search). x .words) (p ∙ sym q))

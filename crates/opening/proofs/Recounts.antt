@@ -81,15 +81,15 @@ module _ (h w t p : List ℕ) (fuel : ℕ) where
 pub of-record : (fuel : ℕ) (z : Zone) {r x : Record} {u : Ran} → r ≡ x → u ≡ follow openStep (fuel - 0) 0 (Answer.UnderWay x) z → u ≡ follow openStep (fuel - 0) 0 (Answer.UnderWay r) z
 of-record fuel z q o = o ∙ sym (ap (λ y. follow openStep (fuel - 0) 0 (Answer.UnderWay y) z) q)
 
--- ---- a run that went on so from its first step: it has ended, or the steps that are left end it
-module _ (fuel : ℕ) (r : Record) (y : Way) (z′ z : Zone) (o : WentOn openStep fuel 0 r y z′ z) where
-  from-first : {x : Way} → y ≡ x → wentTo openStep fuel x z′ ≡ follow openStep fuel 0 (Answer.UnderWay r) z
-  from-first q = sym (ap (λ x. wentTo openStep fuel x z′) q) ∙ o ∙ ap (λ n. follow openStep n 0 (Answer.UnderWay r) z) (sub-zero fuel)
+-- ---- a run of n steps at most that went on so from its first step: it has ended, or the steps that are left end it
+module _ (fuel : ℕ) (r : Record) (y : Way) (z′ z : Zone) {n : ℕ} (e : fuel ≡ n) (o : WentOn openStep fuel 0 r y z′ z) where
+  from-first : {x : Way} → y ≡ x → wentTo openStep fuel x z′ ≡ follow openStep n 0 (Answer.UnderWay r) z
+  from-first q = sym (ap (λ x. wentTo openStep fuel x z′) q) ∙ o ∙ ap (λ i. follow openStep i 0 (Answer.UnderWay r) z) (sub-zero fuel ∙ e)
 
-  pub run-ended : {e : Ended} → y ≡ Way.Ends e → ranTo e z′ ≡ follow openStep fuel 0 (Answer.UnderWay r) z
+  pub run-ended : {x : Ended} → y ≡ Way.Ends x → ranTo x z′ ≡ follow openStep n 0 (Answer.UnderWay r) z
   unfolding wentTo
   run-ended q = from-first q
 
-  pub run-went-on : {x : Record} {k : ℕ} {u : Ran} → y ≡ Way.Goes x k → u ≡ follow openStep (fuel - k) k (Answer.UnderWay x) z′ → u ≡ follow openStep fuel 0 (Answer.UnderWay r) z
+  pub run-went-on : {x : Record} {k : ℕ} {u : Ran} → y ≡ Way.Goes x k → u ≡ follow openStep (fuel - k) k (Answer.UnderWay x) z′ → u ≡ follow openStep n 0 (Answer.UnderWay r) z
   unfolding wentTo
   run-went-on q d = d ∙ from-first q

@@ -22,12 +22,12 @@ use Rattle.rules.specs.Plan.{Plan, refuse, Refusal, on, guarded}
 use Rattle.rules.specs.Ranges.{openingIn}
 use Rattle.rules.specs.Create as Create
 use Rattle.rules.specs.Open.{childAt, zerosAt, childCount, opening, openingSound, openStage}
+use Rattle.rules.proofs.Fields.{count-few}
 use Rattle.rules.proofs.Fresh.{child-at}
 use Rattle.rules.proofs.Phases.{zeros-at}
 use Rattle.lower.specs.declared.Recounted.{Recounted}
 use Rattle.lower.specs.Tables.{turned, stepAt}
 use Rattle.lower.specs.Steps.{fieldsIn, recounted, recountIn}
-use Rattle.lower.proofs.Entries.{count-few}
 use Rattle.entries.specs.declared.Added.{Added}
 use Rattle.entries.specs.Sizes as Sizes
 use Rattle.entries.specs.Steps.{storeCountIn, storedIn}

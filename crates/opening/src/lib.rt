@@ -2,7 +2,7 @@
 // One store a step; the first makes all checks. Words and children are read and stored by the lower level alone.
 ghost use mathlib.Core.Path.{_≡_};
 ghost use mathlib.Core.List.{[]};
-ghost use Prim.Native.Nat.{_*_, _-_, _<_};
+ghost use Prim.Native.Nat.{_*_, _-_, _<_, max};
 ghost use lib.ListN.{length};
 ghost use Rattle.laws.specs.Tests.{Passes};
 ghost use Rattle.laws.specs.Tables.{outcome};
@@ -323,7 +323,7 @@ fn step_on(
     }
 }
 
-// Up to `fuel` later steps of open in one call, counted. Out of steps it answers 1 with the record. A refused step stores nothing: the tables are
+// Up to `fuel` later steps of open in one call, one at least, counted. Out of steps it answers 1 with the record. A refused step stores nothing: the tables are
 // those after the last good step. For memory without cuts: a cut is admitted between calls only, and memory that survives one is driven by single steps.
 pub fn run(
     header: &[u64],
@@ -334,9 +334,10 @@ pub fn run(
     rec: Record,
     fuel: u64,
 ) -> Ended
-    ensures { λ r. ⌜ ranTo r (zone (now (header .entry)) (now (words .entry)) (now (children .exit)) (now (trees .exit)) (now (cpus .exit))) ≡ follow openStep fuel 0 (Answer.UnderWay rec) (zone (now (header .entry)) (now (words .entry)) (now (children .entry)) (now (trees .entry)) (now (cpus .entry))) ⌝ }
+    ensures { λ r. ⌜ ranTo r (zone (now (header .entry)) (now (words .entry)) (now (children .exit)) (now (trees .exit)) (now (cpus .exit))) ≡ follow openStep (max 1 fuel) 0 (Answer.UnderWay rec) (zone (now (header .entry)) (now (words .entry)) (now (children .entry)) (now (trees .entry)) (now (cpus .entry))) ⌝ }
 {
-    match way(header, words, children, trees, cpus, rec, fuel) {
+    let most = calls::at_least_one(fuel);
+    match way(header, words, children, trees, cpus, rec, most) {
         Way::Ends(ended) => ended,
         Way::Goes { rec: next, steps } => step_on(
             header,
@@ -346,7 +347,7 @@ pub fn run(
             cpus,
             next,
             steps,
-            fuel,
+            most,
         ),
     }
 }

@@ -1,5 +1,5 @@
 // A put from its first stage on, in one call: the clearing store, the child's count, the own entry or the tree.
-// A stage's answer is the one that the rules give it; no record is made between the stages.
+// A function answers where the put stands after the stages that it made; no answer and no record is made between the stages.
 ghost use mathlib.Core.Path.{_≡_};
 ghost use Prim.Native.Nat.{_+_, _<_};
 ghost use Rattle.rules.specs.Begin.{beginPut};

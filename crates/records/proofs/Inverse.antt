@@ -20,6 +20,7 @@ use Rattle.records.specs.Layout.{firstLayout, secondLayout, spotNowhere,
 use Rattle.records.specs.Encoding.{fieldsHeld, fieldsSearched, fieldsBlocked, fieldsNumbered, takingFields, givingFields, creatingFields, openingFields, fieldsOf, BlockFits, SecondFits, joined, Encodes, encode}
 use Rattle.records.specs.Decoding.{headOf, tailOf, passAt, foundAt, placeAt, blockIn, takingAt, givingAt, creatingAt, openingAt, readAt, read, sameWords, decode}
 use Rattle.records.specs.Inverse.{Inverse}
+use Rattle.records.proofs.Fits.{range-fits, finished-fits}
 
 -- ---- the parts of a record, from their numbers
 
@@ -179,7 +180,12 @@ unfolding decode
 one-encoding w = pick-elim (λ r. r ≢ Record.Finished → encode r ≡ w) (sameWords (encode (read w)) w) (λ e n. same-words _ w e) (λ e n. absurd (n refl))
 
 pub inverse : Inverse
-inverse = record { back = read-back; once = one-encoding }
+inverse = record {
+  back = read-back;
+  ranged = λ n c a b r h. let f = range-fits n c a b r h in read-back r (f .first) (f .second);
+  finished = read-back Record.Finished (finished-fits .first) (finished-fits .second);
+  once = one-encoding;
+}
 
 -- ---- the code's return: words that hold a record's fields
 

@@ -1,4 +1,5 @@
 pub mod Picks
+pub mod Fits
 pub mod Packed
 pub mod Inverse
 pub mod Returns

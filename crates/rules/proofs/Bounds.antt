@@ -1,8 +1,7 @@
 -- The step bounds, by the measure that falls.
 use mathlib.Core.Path.{_≡_, refl, ap, subst}
 use mathlib.Core.Bool.{false, not}
-use mathlib.Core.List.{[]}
-use Prim.Native.Nat.{ℕ, zero, suc, _+_, _-_, _*_, _%_, _≤_, _<_}
+use Prim.Native.Nat.{ℕ, zero, suc, _+_, _-_, _*_, _/_, _%_, _≤_, _<_}
 use native.Mathlib.Omega.{arith}
 use lib.Dec.{eqb, leb}
 use lib.ListN.{getD, length-set}
@@ -10,7 +9,7 @@ use borrow.Author.Tests.{eqb-true, leb-false, not-false}
 use Rattle.laws.specs.Tests.{passes, Passes}
 use Rattle.laws.proofs.Tests.{pick-elim, true-false, all-passed}
 use Rattle.rules.specs.Types.{Frame, Order, Header, Record, Answer}
-use Rattle.rules.specs.Numbers.{childFrames, Shape, format1, mostHuge}
+use Rattle.rules.specs.Numbers.{childFrames, Shape, format1, mostHuge, treesOf}
 use Rattle.rules.specs.Answers.{Next, ends, goesOn, nextOf, byNext}
 use Rattle.rules.specs.Entries.{field, headerLayout, headerChecks, markerOf, running, clean, headerSays}
 use Rattle.rules.specs.Zone.{Zone, headerOf, headerHuge, shapeOf, Store, stored}
@@ -55,7 +54,7 @@ module _ (z : Zone) where
   unfolding step
   step-falls r = guarded-elim (λ p. Falls (shapeOf z) (left (shapeOf z) r) (p .answer)) _ _ (tt, (tt, (tt, (tt, (tt, tt))))) (λ n. act-falls (open-sized (n .0, (n .1 .0, (n .1 .1 .0, (n .1 .1 .1 .0, tt)))) .0) r (not-refused (stepRange (shapeOf z) r) (n .1 .1 .1 .1 .0)))
 
-  get-begun : (cpu o : ℕ) → Falls (shapeOf z) (mostGet (shapeOf z)) (beginGet z cpu o .answer)
+  pub get-begun : (cpu o : ℕ) → Falls (shapeOf z) (mostGet (shapeOf z)) (beginGet z cpu o .answer)
   unfolding beginGet stepRange takingIn left takingLeft ownRank searchSteps
   get-begun cpu o = guarded-elim (λ p. Falls (shapeOf z) (mostGet (shapeOf z)) (p .answer)) _ _ (tt, (tt, (tt, (tt, (tt, (tt, tt)))))) (λ n.
       let e : leb (shapeOf z .cpus) cpu ≡ false = search in
@@ -65,7 +64,7 @@ module _ (z : Zone) where
   block-in (Order.Run v) f h e = (h, (e, tt))
   block-in Order.Nine f h e = (omega arith, tt)
 
-  put-begun : (cpu : ℕ) (f : Frame) (o : ℕ) → Falls (shapeOf z) mostPut (beginPut z cpu f o .answer)
+  pub put-begun : (cpu : ℕ) (f : Frame) (o : ℕ) → Falls (shapeOf z) mostPut (beginPut z cpu f o .answer)
   unfolding beginPut stepRange givingIn left givingLeft
   put-begun cpu f o = guarded-elim (λ p. Falls (shapeOf z) mostPut (p .answer)) _ _ (tt, (tt, (tt, (tt, (tt, (tt, (tt, (tt, tt)))))))) (λ n.
       let e : leb (shapeOf z .cpus) cpu ≡ false = search in
@@ -115,11 +114,23 @@ follow-ends (suc fuel) k a z h = go (nextOf a) refl h (λ r. follow-ends fuel (s
     go ends e p ih = rw e tt
     go (goesOn r) e p ih = ih r (rw (after-shape z r) (falls-less (shapeOf z) (left (shapeOf z) r) fuel (nextOf (step z r .answer)) (omega (arith, p .1)) (step-falls z r)))
 
+-- a run that stands at a record ends before its measure
+pub run-ends : (fuel : ℕ) (z : Zone) (r : Record) → left (shapeOf z) r < fuel → Ends (follow step fuel 0 (Answer.UnderWay r) z .answer)
+unfolding follow
+run-ends zero z r h = absurd (omega arith)
+run-ends (suc m) z r h = follow-ends m 1 (step z r .answer) (after z (step z r)) (rw (after-shape z r) (falls-less (shapeOf z) (left (shapeOf z) r) m (nextOf (step z r .answer)) (omega arith) (step-falls z r)))
+
+most-get : (n c : ℕ) → mostGet (record { format = format1; huge = n; cpus = c }) ≡ 330 * (3 * ((n + 31) / 32) + c + 33)
+unfolding searchSteps treesOf
+most-get n c = refl
+
 pub bounds : Bounds
 bounds = record {
   falls = step-falls;
-  get = λ g zs q cpu o. among-ends g zs q (mostGet g) (beginGet (zs 0) cpu o .answer) (subst (λ h. Falls h (mostGet h) (beginGet (zs 0) cpu o .answer)) (q 0) (get-begun (zs 0) cpu o));
-  put = λ g zs q cpu f o. among-ends g zs q mostPut (beginPut (zs 0) cpu f o .answer) (subst (λ h. Falls h mostPut (beginPut (zs 0) cpu f o .answer)) (q 0) (put-begun (zs 0) cpu f o));
+  get = λ n c zs q z e cpu o. subst (λ m. Ends (among zs m (beginGet z cpu o .answer))) (most-get n c) (among-ends _ zs q (mostGet _) (beginGet z cpu o .answer) (subst (λ h. Falls h (mostGet h) (beginGet z cpu o .answer)) e (get-begun z cpu o)));
+  put = λ n c zs q z e cpu f o. among-ends _ zs q 4 (beginPut z cpu f o .answer) (subst (λ h. Falls h mostPut (beginPut z cpu f o .answer)) e (put-begun z cpu f o));
+  getMost = most-get;
+  putMost = refl;
   getRun = λ z cpu o. follow-ends (mostGet (shapeOf z)) 0 (beginGet z cpu o .answer) z (get-begun z cpu o);
   putRun = λ z cpu f o. follow-ends mostPut 0 (beginPut z cpu f o .answer) z (put-begun z cpu f o);
 }

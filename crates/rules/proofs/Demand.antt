@@ -2,40 +2,42 @@
 use mathlib.Core.Path.{_≡_, refl, sym, ap, _∙_, subst}
 use mathlib.Core.Logic.{_⊎_, inl, inr}
 use mathlib.Core.Bool.{true, false, not}
-use mathlib.Core.List.{List, [], _∷_, _++_}
-use Prim.Native.Nat.{ℕ, zero, suc, _+_, _*_, _/_, _%_, _≤_, _<_}
+use mathlib.Core.List.{List, [], _∷_}
+use Prim.Native.Nat.{ℕ, _+_, _*_, _/_, _%_, _≤_, _<_}
 use native.Mathlib.Omega.{arith}
 use native.Mathlib.Decide.{decLt}
 use lib.Dec.{leb}
-use lib.ListN.{length, replicate}
+use lib.ListN.{length, getD, replicate}
 use borrow.Author.Tests.{eq-eqb, lt-leb}
 use Rattle.laws.specs.Sum.{sumL}
 use Rattle.laws.proofs.Tests.{pick-elim}
-use Rattle.rules.specs.Types.{Run, Order, Block, Record, Answer}
-use Rattle.rules.specs.Numbers.{childFrames, childWords, mostHuge, mostCpus, format1, Shape, treesOf}
+use Rattle.rules.specs.Types.{Run, Order, Block, Record}
+use Rattle.rules.specs.Numbers.{childFrames, childWords, format1, Shape, treesOf}
 use Rattle.rules.specs.Conversions.{frame}
-use Rattle.rules.specs.Blocks.{size, sizeOf, firstOf}
-use Rattle.rules.specs.Answers.{number, Next, ends, goesOn, nextOf, byNext}
+use Rattle.rules.specs.Blocks.{size, firstOf}
+use Rattle.rules.specs.Answers.{number}
 use Rattle.rules.specs.Zone.{Zone, headerOf, headerHuge, shaped, shapeOf}
-use Rattle.rules.specs.Plan.{Mark, plain, takes, clears, Plan, Refusal, guarded}
+use Rattle.rules.specs.Plan.{Plan, Refusal, guarded}
 use Rattle.rules.specs.Begin.{orderNumber, orderOf, badCpu, badOrder, badFrame, misaligned, beginGet, beginPut}
 use Rattle.rules.specs.Step.{after}
 use Rattle.rules.specs.Open.{openStep, settled, closeSound, closeZone}
 use Rattle.rules.specs.Fresh.{Fitting}
-use Rattle.rules.specs.Events.{Begun, idle, getting, putting, Cpu, taken, unlessCleared, lostBy, lostOf, lostAll, Phase, ready, down, opening, State, cpusOf, heldAt, Call, get, put, stepOf, close, openFirst, openLater, orderOfBlock, planned, storedBy, withPhase, cutOff, answeredBy, Event, call, cut, cutIn, next, Called}
-use Rattle.rules.specs.Promise.{covers, AtRest, ownedBy, most, Names, Promise, Demand3}
+use Rattle.rules.specs.Events.{lostBy, lostOf, Phase, ready, down, opening, State, cpusOf, heldAt, get, put, stepOf, close, openFirst, openLater, orderOfBlock, planned, answeredBy, call, next, Called, Reach}
+use Rattle.rules.specs.Promise.{covers, Inside, AtRest, ownedBy, most, mostSteps, Names, Promise, Demand3}
 use Rattle.rules.proofs.Guards.{guarded-elim}
 use Rattle.rules.proofs.Ways.{guarded-none}
 use Rattle.rules.proofs.Own.{owned-once, owned-survived}
 use Rattle.rules.proofs.Shares.{baseOf, wholeOf}
 use Rattle.rules.proofs.Sizes.{order-again}
-use Rattle.rules.proofs.Invariant.{BlockIn, Up}
+use Rattle.rules.proofs.Invariant.{BlockIn, AllIn, Up}
 use Rattle.rules.proofs.Readings.{shape-is, open-skips}
 use Rattle.rules.proofs.Phases.{lost-told, still, down-huge}
-use Rattle.rules.proofs.Turns.{Goes, first-goes, later-goes, op-kept, in-table, stepped, as-many, op-huge}
+use Rattle.rules.proofs.Turns.{Goes, first-goes, later-goes, op-kept, in-table, stepped, op-huge}
 use Rattle.rules.proofs.Ends.{length-replicate}
-use Rattle.rules.proofs.Histories.{Phased, Holds, made, in-phase, at-still, inside-at, answer-elim, reached}
-use Rattle.rules.proofs.Rest.{covered-is, block-ends, block-some, covered-out, two-of, rest-taken, rest-trees, rest-children, rest-sound, rest-settled}
+use Rattle.rules.proofs.Histories.{Phased, Holds, made, in-phase, at-still, inside-at, reached}
+use Rattle.rules.proofs.Lengths.{soon, step-counts}
+use Rattle.rules.proofs.Losses.{call-lost, loses, lost-inside}
+use Rattle.rules.proofs.Rest.{covered-is, block-ends, block-some, covered-out, two-of, rest-taken, rest-trees, rest-reserved, rest-children, rest-sound, rest-settled}
 
 module _ (n : ℕ) (s : State) (h : Holds n s) where
   -- ---- one owner a frame
@@ -65,8 +67,8 @@ module _ (n : ℕ) (s : State) (h : Holds n s) where
       go down d = down-huge n (s .zone) (s .held) (s .lost) (d .0)
       go (opening r) o = op-huge n (s .zone) r (s .held) (s .lost) (o .0)
 
-  inside : (i : ℕ) → i < length (s .held) → firstOf (heldAt s i) .0 + sizeOf (heldAt s i) ≤ childFrames * headerHuge (headerOf (s .zone))
-  inside i l = rw huge-kept (block-ends n (heldAt s i) (inside-at n (s .held) i l (h .inside)))
+  inside : (l : List Block) → AllIn n l → (i : ℕ) → i < length l → Inside n (getD l i (Block.Run Run.One (frame 0)))
+  inside l a i m = block-ends n (getD l i (Block.Run Run.One (frame 0))) (inside-at n l i m a)
 
   -- ---- at rest
 
@@ -150,92 +152,43 @@ module _ (n : ℕ) (s : State) (h : Holds n s) where
       go down d = rw (d .1) refl
       go (opening r) o = rw (o .1) refl
 
--- an operation loses one block at most
-taken-few : (l : List Mark) → length (taken l) ≤ 1
-unfolding taken
-taken-few [] = omega arith
-taken-few (plain ∷ l) = taken-few l
-taken-few (takes b ∷ l) = omega arith
-taken-few (clears b ∷ l) = taken-few l
-
-cleared-few : (b : Block) (l : List Mark) → length (unlessCleared b l) ≤ 1
-unfolding unlessCleared
-cleared-few b [] = omega arith
-cleared-few b (plain ∷ l) = cleared-few b l
-cleared-few b (takes c ∷ l) = cleared-few b l
-cleared-few b (clears c ∷ l) = omega arith
-
-lost-one : (b : Begun) (l : List Mark) → length (lostBy b l) ≤ 1
-unfolding lostBy
-lost-one idle l = omega arith
-lost-one (getting o) l = taken-few l
-lost-one (putting b) l = cleared-few b l
-
-length-append : (k l : List Block) → length (k ++ l) ≡ length k + length l
-length-append [] l = omega arith
-length-append (x ∷ k) l = omega (arith, length-append k l)
-
-lost-few : (n : ℕ) (c : ℕ → Cpu) → length (lostAll n c) ≤ n
-unfolding lostAll
-lost-few zero c = omega arith
-lost-few (suc n) c = omega (arith, length-append (lostOf (c n)) (lostAll n c), lost-one (c n .begun) (c n .marks), lost-few n c)
-
--- lost blocks come with a cut, and with a close answered Done
-cut-few : (s : State) (z : Zone) → length (cutOff s z .lost) ≤ length (s .lost) + cpusOf s
-cut-few s z = omega (arith, length-append (lostAll (cpusOf s) (s .cpus)) (s .lost), lost-few (cpusOf s) (s .cpus))
-
-stored-few : (s : State) (c : Call) → (length (storedBy s c .lost) ≡ length (s .lost)) × (cpusOf (storedBy s c) ≡ cpusOf s)
-stored-few s c = (refl, as-many (s .zone) (planned s c .store))
-
-module _ (s : State) (m : ℕ) where
-  abbrev Few : State → Type 0
-  Few x = length (x .lost) ≤ m
-
-  next-few : (x : Next) (a : State) (f : Record → State) → Few a → ((r : Record) → Few (f r)) → Few (byNext x a f)
-  next-few ends a f p q = p
-  next-few (goesOn r) a f p q = q r
-
-  answered-few : (c : Call) (a : Answer) → length (s .lost) + cpusOf s ≤ m → Few (answeredBy s c a)
-  unfolding answeredBy
-  answered-few (get j o) a l = next-few (nextOf a) _ _ (omega arith) (λ r. omega arith)
-  answered-few (put j i) a l = next-few (nextOf a) _ _ (omega arith) (λ r. omega arith)
-  answered-few (stepOf j) a l = next-few (nextOf a) _ _ (omega arith) (λ r. omega arith)
-  answered-few close a l = answer-elim Few a (λ f. cutOff s (s .zone)) (λ r. s) s (λ f q. omega (arith, cut-few s (s .zone))) (λ r q. omega arith) (λ q. omega arith)
-  answered-few openFirst a l = next-few (nextOf a) _ _ (omega arith) (λ r. omega arith)
-  answered-few openLater a l = answer-elim Few a (λ f. withPhase s ready) (λ r. withPhase s (opening r)) s (λ f q. omega arith) (λ r q. omega arith) (λ q. omega arith)
-
-few : (s : State) (e : Event) → length (next s e .lost) ≤ length (s .lost) + cpusOf s
-unfolding next
-few s (call c) = answered-few (storedBy s c) (length (s .lost) + cpusOf s) c (planned s c .answer) (omega (arith, stored-few s c .1))
-few s (cut ts es) = cut-few s (record { header = s .zone .header; words = s .zone .words; children = s .zone .children; trees = ts; cpus = es })
-few s (cutIn c ts es) = omega (arith, cut-few (storedBy s c) (record { header = storedBy s c .zone .header; words = storedBy s c .zone .words; children = storedBy s c .zone .children; trees = ts; cpus = es }), stored-few s c .1)
-
 -- ---- a zone to start from
 
-starts : (n c : ℕ) → 0 < n → n ≤ mostHuge → 0 < c → c ≤ mostCpus → (z : Zone) × Fitting n z × (length (z .cpus) ≡ c)
+starts : (n c : ℕ) → 0 < n → n ≤ 65536 → 0 < c → c ≤ 64 → (z : Zone) × Fitting n z × (length (z .cpus) ≡ c)
 unfolding treesOf
 starts n c a b d e =
     let z : Zone = record { header = 0 ∷ []; words = replicate (childWords * n) 0; children = replicate n 0; trees = replicate (treesOf (record { format = format1; huge = n; cpus = c })) 0; cpus = replicate c 0 } in
     (z, record { size = (a, (omega arith, tt)); header = (refl, tt); tables = (length-replicate (childWords * n) 0, (length-replicate n 0, (length-replicate (treesOf (shaped n z)) 0, (rw (length-replicate c 0) d, (rw (length-replicate c 0) (omega arith), tt))))) }, length-replicate c 0)
 
-promised : (n : ℕ) (s : State) → Holds n s → Promise s
-promised n s h = record {
+promised : (n : ℕ) (s : State) → Reach n s → Holds n s → Promise n s
+promised n s w h = record {
+  size = huge-kept n s h;
+  header = λ e. in-phase n s h ready e .header;
   apart = apart n s h;
-  inside = inside n s h;
+  inside = inside n s h (s .held) (h .inside);
+  lostInside = inside n s h (s .lost) (lost-inside n s w);
   names = λ j c. step-fine n s h j c .1;
-  taken = λ r f l. rest-taken n (s .zone) (s .cpus) (s .held) (s .lost) (up n s h r) (r .1) f (rw (huge-kept n s h) at l);
+  taken = λ r. rest-taken n (s .zone) (s .cpus) (s .held) (s .lost) (up n s h r) (r .1);
   opened = later-rests n s h;
   trees = λ r. rw (huge-kept n s h) (rest-trees n (s .zone) (s .cpus) (s .held) (s .lost) (up n s h r) (r .1));
   children = λ r. rw (huge-kept n s h) (rest-children n (s .zone) (s .cpus) (s .held) (s .lost) (up n s h r) (r .1));
+  reserved = λ r. rw (huge-kept n s h) (rest-reserved n (s .zone) (s .cpus) (s .held) (s .lost) (up n s h r) (r .1));
   steps = λ j c. step-fine n s h j c .0;
   gets = get-small n s h;
   puts = put-small n s h;
   openFirst = first-small n s h;
   openLater = later-small n s h;
+  counts = λ j c. step-counts s j;
+  soon = λ j. subst (λ k. length (s .cpus j .marks) < mostSteps k (cpusOf s) (s .cpus j .begun)) (huge-kept n s h) (soon n s w j);
   closes = close-done n s h;
-  few = λ e a. few s e;
+  loses = loses n s h;
+  keeps = λ c a. call-lost n s h c;
   told = told n s h;
 }
 
 pub demand3 : Demand3
-demand3 = record { starts = starts; holds = λ n s r. promised n s (reached n s r) }
+demand3 = record {
+  starts = starts;
+  only = λ n z f. (f .size .0, omega (arith, f .size .1 .0), f .tables .1 .1 .1 .0, omega (arith, f .tables .1 .1 .1 .1 .0));
+  holds = λ n s r. promised n s r (reached n s r);
+}

@@ -1,25 +1,28 @@
--- The exhibited history, by computation; and its events are admitted, by a test.
+-- The exhibited histories, by computation; and their events are admitted, by a test.
 use mathlib.Core.Path.{_≡_, refl, sym, ap, _∙_, subst}
 use mathlib.Core.Bool.{Bool, true, false, _&&_}
-use mathlib.Core.List.{List, [], _∷_}
+use mathlib.Core.List.{List, [], _∷_, _++_}
 use Prim.Native.Nat.{ℕ}
+use native.Mathlib.Omega.{arith}
+use native.Mathlib.Decide.{decLt}
 use lib.Dec.{eqb, leb, ltb}
-use lib.ListN.{length, replicate}
+use lib.ListN.{length}
 use borrow.Author.Tests.{eqb-true, leb-true, ltb-true}
-use Rattle.laws.specs.Tests.{pick, passes}
+use Rattle.laws.specs.Tests.{every}
 use Rattle.laws.specs.Sum.{upd}
-use Rattle.laws.proofs.Tests.{true-false, and-both, all-passed}
+use Rattle.laws.proofs.Tests.{true-false, and-both, both-and, every-at}
 use Rattle.rules.specs.Types.{Record}
 use Rattle.rules.specs.Numbers.{mostCpus, format1, treesOf}
 use Rattle.rules.specs.Plan.{Mark}
-use Rattle.rules.specs.Zone.{Zone, shaped, shapeOf}
-use Rattle.rules.specs.Checks.{headerChecks, lengthChecks}
-use Rattle.rules.specs.Create.{sizeChecks}
+use Rattle.rules.specs.Zone.{Zone, shapeOf}
 use Rattle.rules.specs.Fresh.{fresh, listed, Fitting}
-use Rattle.rules.specs.Events.{Begun, idle, getting, putting, Cpu, resting, taken, unlessCleared, lostBy, lostAll, Phase, ready, down, opening, State, without, Call, get, put, stepOf, close, openFirst, openLater, planned, answeredBy, Event, call, cut, cutIn, next, Idle, Called, Left, Admitted, started, Reach, start, then}
-use Rattle.rules.specs.Exhibit.{history, Shows, toEnd, begins, Exhibit}
+use Rattle.rules.specs.Events.{Begun, idle, getting, putting, Cpu, resting, taken, unlessCleared, lostBy, lostAll, Phase, ready, down, opening, State, cpusOf, without, Call, get, put, stepOf, close, openFirst, openLater, planned, answeredBy, Event, call, cut, cutIn, next, Idle, Called, Left, Admitted, started, Reach, start, then}
+use Rattle.rules.specs.Promise.{AtRest}
+use Rattle.rules.specs.Exhibit.{history, Shows, toEnd, cutAfter, CutBefore, CutLater, begins, Exhibited, Exhibit}
 use Rattle.rules.proofs.Computed.{by-computation}
 use Rattle.rules.proofs.Fresh.{runs}
+use Rattle.rules.proofs.Histories.{in-phase, reached}
+use Rattle.rules.proofs.Demand.{demand3}
 
 -- ---- a test of the events that demand 3 admits
 
@@ -72,7 +75,7 @@ admitted s (call c) = called s c
 admitted s (cut ts cs) = left s ts cs
 admitted s (cutIn c ts cs) = called s c && left s ts cs
 
-unfoldable allAdmitted : List Event → State → Bool
+unfoldable pub allAdmitted : List Event → State → Bool
 allAdmitted [] s = true
 allAdmitted (e ∷ l) s = admitted s e && allAdmitted l (next s e)
 
@@ -129,22 +132,67 @@ admitted-is s (cut ts cs) t = left-is s ts cs t
 admitted-is s (cutIn c ts cs) t = let b = and-both _ _ t in (called-is s c (b .0), left-is s ts cs (b .1))
 
 -- events that all pass lead from a reached state to a reached one
-follows : (n : ℕ) (l : List Event) (s : State) → Reach n s → allAdmitted l s ≡ true → Reach n (history l s)
+pub follows : (n : ℕ) (l : List Event) (s : State) → Reach n s → allAdmitted l s ≡ true → Reach n (history l s)
 unfolding allAdmitted history
 follows n [] s r e = r
 follows n (x ∷ l) s r e = let b = and-both _ _ e in follows n l (next s x) (then x r (admitted-is s x (b .0))) (b .1)
 
--- ---- from the fresh zone
+-- the CPUs of the table are idle, by a test; beyond it there is none
+abbrev pub atRest : State → Bool
+atRest s = isReady (s .phase) && every (cpusOf s) (idles s)
 
-abbrev first : State
-first = started (fresh (record { format = format1; huge = 1; cpus = 2 }))
+pub at-rest : (n : ℕ) (s : State) → Reach n s → atRest s ≡ true → AtRest s
+at-rest n s r e =
+    let b = and-both (isReady (s .phase)) (every (cpusOf s) (idles s)) e in
+    let p : s .phase ≡ ready = ready-is (s .phase) (b .0) in (
+      p,
+      λ j. elim (decLt j (cpusOf s)) [
+        | yes l ↦ idle-at s j (every-at (cpusOf s) (idles s) (b .1) j l)
+        | no m ↦ in-phase n s (reached n s r) ready p .beyond j (omega (arith, m))
+      ],
+    )
+
+-- ---- one list of events after another
+
+pub history-after : (a b : List Event) (s : State) → history (a ++ b) s ≡ history b (history a s)
+unfolding history
+history-after [] b s = refl
+history-after (e ∷ a) b s = history-after a b (next s e)
+
+pub admitted-after : (a b : List Event) (s : State) → allAdmitted a s ≡ true → allAdmitted b (history a s) ≡ true → allAdmitted (a ++ b) s ≡ true
+unfolding allAdmitted history
+admitted-after [] b s p q = q
+admitted-after (e ∷ a) b s p q =
+    let d = and-both (admitted s e) (allAdmitted a (next s e)) p in
+    both-and (admitted s e) (allAdmitted (a ++ b) (next s e)) (d .0) (admitted-after a b (next s e) (d .1) q)
+
+-- ---- from the fresh zone, and so from every zone that create leaves
+
+abbrev pub first : ℕ → ℕ → State
+first n c = started (fresh (record { format = format1; huge = n; cpus = c }))
 
 -- every definition on the way of a history
-unfoldable by-history : Unit {0}
-unfolding by-computation history next answeredBy planned lostAll lostBy taken unlessCleared without upd fresh listed
+unfoldable pub by-history : Unit {0}
+unfolding by-computation history next answeredBy planned lostAll lostBy taken unlessCleared without upd fresh listed allAdmitted
 by-history = tt
 
-shown : Shows first
+module _ (n c : ℕ) where
+  begins-first : (z : Zone) → Fitting n z → length (z .cpus) ≡ c → begins n z ≡ first n c
+  begins-first z h e = ap started (runs .create n z h .zone ∙ ap (λ k. fresh (record { format = format1; huge = n; cpus = k })) e)
+
+  pub reach-first : (z : Zone) × Fitting n z × (length (z .cpus) ≡ c) → Reach n (first n c)
+  reach-first (z, h, e) = subst (Reach n) (begins-first z h e) (start z h)
+
+  pub exhibited : (l : List Event) (S : State → Type 0) → (z : Zone) × Fitting n z × (length (z .cpus) ≡ c) → S (first n c) → allAdmitted l (first n c) ≡ true → Exhibited n c l S
+  exhibited l S t x y = record {
+    tables = t;
+    shows = λ z h e. subst S (sym (begins-first z h e)) x;
+    reached = λ z h e. follows n l (begins n z) (start z h) (ap (allAdmitted l) (begins-first z h e) ∙ y);
+  }
+
+-- ---- one huge frame and two CPUs
+
+shown : Shows (first 1 2)
 unfolding by-history
 shown = record {
   steals = refl;
@@ -158,28 +206,30 @@ shown = record {
   rests = (refl, λ j. refl);
 }
 
-all-admitted : allAdmitted toEnd first ≡ true
-unfolding by-history allAdmitted
-all-admitted = refl
+cut-before : CutBefore (first 1 2)
+unfolding by-history
+cut-before = record {
+  before = record { words = refl; children = refl };
+  fell = record { words = refl; children = refl };
+  nothing = record { phase = refl; held = refl; lost = refl };
+  again = record { words = refl; children = refl };
+}
 
--- ---- from the zone that create leaves
+cut-later : CutLater (first 1 2)
+unfolding by-history
+cut-later = record {
+  set = record { words = refl; children = refl };
+  one = record { phase = refl; held = refl; lost = refl };
+  gone = record { words = refl; children = refl };
+}
 
-module _ (z : Zone) (h : Fitting 1 z) (e : length (z .cpus) ≡ 2) where
-  begins-first : begins z ≡ first
-  begins-first = ap started (runs .create 1 z h .zone ∙ ap (λ k. fresh (record { format = format1; huge = 1; cpus = k })) e)
-
-  shown-begins : Shows (begins z)
-  shown-begins = subst Shows (sym begins-first) shown
-
-  reaches : Reach 1 (history toEnd (begins z))
-  reaches = follows 1 toEnd (begins z) (start z h) (ap (allAdmitted toEnd) begins-first ∙ all-admitted)
-
-abbrev bare : Zone
-bare = record { header = 0 ∷ []; words = replicate 8 0; children = 0 ∷ []; trees = 0 ∷ []; cpus = 0 ∷ 0 ∷ [] }
-
-bare-fits : Fitting 1 bare
-unfolding passes pick treesOf
-bare-fits = record { size = all-passed (sizeChecks 1) refl; header = all-passed (headerChecks bare) refl; tables = all-passed (lengthChecks (shaped 1 bare) bare) refl }
+one-huge : (z : Zone) × Fitting 1 z × (length (z .cpus) ≡ 2)
+one-huge = demand3 .starts 1 2 (omega arith) (omega arith) (omega arith) (omega arith)
 
 pub exhibit : Exhibit
-exhibit = record { tables = (bare, bare-fits, refl); shows = shown-begins; reached = reaches }
+unfolding by-history
+exhibit = record {
+  steal = exhibited 1 2 toEnd Shows one-huge shown refl;
+  cutBefore = exhibited 1 2 (cutAfter 2) CutBefore one-huge cut-before refl;
+  cutLater = exhibited 1 2 (cutAfter 3) CutLater one-huge cut-later refl;
+}

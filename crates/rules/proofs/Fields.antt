@@ -6,6 +6,7 @@ use mathlib.Core.List.{List}
 use Prim.Native.Nat.{ℕ, _+_, _-_, _*_, _/_, _%_, _^_, _≤_, _<_}
 use native.Mathlib.Omega.{arith}
 use native.Mathlib.Decide.{ℕ-discrete}
+use lib.Dec.{eqb}
 use lib.ListN.{length, getD, set}
 use lib.Seq.{getD-set-same, getD-set-other}
 use Rattle.laws.specs.Tests.{pick}
@@ -16,7 +17,9 @@ use Rattle.laws.proofs.Sum.{run-shift, run-apart, placed, here, elsewhere, sum-
 use Rattle.laws.proofs.Words.{zeros-le, zeros-set, zeros-clear, set-bits, clear-bits}
 use Rattle.rules.specs.Types.{ChildEntry}
 use Rattle.rules.specs.Numbers.{childFrames, childWords, wordBits}
-use Rattle.rules.specs.Lower.{childSays, countWord, byChild, wellFormed, isFlagged, countIn, recount, zeroBits}
+use Rattle.laws.specs.Fields.{width, split}
+use Rattle.rules.specs.Entries.{field}
+use Rattle.rules.specs.Lower.{childLayout, childSays, countWord, byChild, wellFormed, isFlagged, countIn, recount, zeroBits}
 use Rattle.rules.proofs.Layouts.{count-again, ChildView, child-view}
 
 -- ---- an entry
@@ -37,6 +40,16 @@ count-fits x k = go (childSays x) (child-view x)
     go (ChildEntry.Counts i) (ChildView.counts p) e = let q : i ≡ k = cc in omega (arith, p .1 .1 .0)
     go ChildEntry.Flagged (ChildView.flagged p) e = let z : _≡_ {A = ℕ} 0 1 = cc in absurd (omega arith)
 
+-- an entry counts a child's frames at most
+pub count-few : (x : ℕ) → countIn x ≤ childFrames
+unfolding countIn byChild
+count-few x = go (childSays x) refl
+  where
+    go : (e : ChildEntry) → childSays x ≡ e → byChild e 0 (λ k. k) 0 ≤ childFrames
+    go ChildEntry.Damaged e = omega arith
+    go (ChildEntry.Counts k) e = count-fits x k e
+    go ChildEntry.Flagged e = omega arith
+
 -- a well-formed entry says one of two things
 pub data Says (x : ℕ) : Type 0 where
   counts : (k : ℕ) → childSays x ≡ ChildEntry.Counts k → Says x
@@ -50,6 +63,20 @@ says x = go (childSays x) refl
     go ChildEntry.Damaged q h = true-false (sym h)
     go (ChildEntry.Counts k) q h = counts k q
     go ChildEntry.Flagged q h = flagged q
+
+-- the flag alone, the first of the entry's 16 bits
+flag-field : (x : ℕ) → field childLayout 0 x ≡ x / 2 ^ 15 % 2
+unfolding field split width
+flag-field x = refl
+
+pub flag-bit : (x : ℕ) → wellFormed x ≡ true → eqb (x / 2 ^ 15 % 2) 1 ≡ isFlagged x
+unfolding wellFormed isFlagged byChild
+flag-bit x = go (childSays x) (child-view x)
+  where
+    go : (e : ChildEntry) → ChildView x e → byChild e false (λ k. true) true ≡ true → eqb (x / 2 ^ 15 % 2) 1 ≡ byChild e false (λ k. false) true
+    go ChildEntry.Damaged (ChildView.broken q) h = true-false (sym h)
+    go (ChildEntry.Counts i) (ChildView.counts p) h = ap (λ y. eqb y 1) (sym (flag-field x) ∙ p .0)
+    go ChildEntry.Flagged (ChildView.flagged p) h = ap (λ y. eqb y 1) (sym (flag-field x) ∙ p .0)
 
 -- a recount keeps the flag; without a flag the count is the new one
 pub recounted : (z x : ℕ) → z ≤ childFrames → wellFormed x ≡ true → (wellFormed (recount z x) ≡ true) × (isFlagged (recount z x) ≡ isFlagged x) × (countIn (recount z x) ≡ pick (isFlagged x) 0 z)

@@ -63,7 +63,7 @@ inside-without n [] i a = tt
 inside-without n (b ∷ l) zero a = a .1
 inside-without n (b ∷ l) (suc i) a = (a .0, inside-without n l i (a .1))
 
-inside-append : (n : ℕ) (k l : List Block) → AllIn n k → AllIn n l → AllIn n (k ++ l)
+pub inside-append : (n : ℕ) (k l : List Block) → AllIn n k → AllIn n l → AllIn n (k ++ l)
 inside-append n [] l a b = b
 inside-append n (x ∷ k) l a b = (a .0, inside-append n k l (a .1) b)
 
@@ -108,7 +108,7 @@ answer-elim Q Answer.NotSettled d u e x y z = z (omega arith)
 answer-elim Q Answer.BadSize d u e x y z = z (omega arith)
 
 -- a get that goes on is handed nothing
-goes-handed : (b : Begun) (a : Answer) (r : Record) → nextOf a ≡ goesOn r → handed b a ≡ []
+pub goes-handed : (b : Begun) (a : Answer) (r : Record) → nextOf a ≡ goesOn r → handed b a ≡ []
 goes-handed idle a r e = refl
 goes-handed (getting o) a r e = answer-elim (λ x. x ≡ []) a (λ f. blockAt o (frame f) ∷ []) (λ r. []) [] (λ f q. let k : _≡_ {A = ℕ} 0 1 = ap (λ x. byNext x 0 (λ r. 1)) (sym (ap nextOf q) ∙ e) in absurd (omega arith)) (λ q h. refl) (λ h. refl)
 goes-handed (putting b) a r e = refl

@@ -7,6 +7,7 @@ use native.Mathlib.Omega.{arith}
 use native.Mathlib.Decide.{ℕ-discrete, decLt}
 use lib.ListN.{length, getD}
 use borrow.Author.Tests.{eq-eqb}
+use Rattle.laws.specs.Tests.{pick}
 use Rattle.laws.specs.Sum.{sumTo, sumL, at}
 use Rattle.laws.proofs.Tests.{pick-elim, pick-no, both-and, every-all}
 use Rattle.laws.proofs.Sum.{run-in, run-below, run-above, at-same, at-other, sum-ext, sum-zero, sum-groups}
@@ -20,13 +21,14 @@ use Rattle.rules.specs.Zone.{Zone, shaped, cpuEntryAt}
 use Rattle.rules.specs.Plan.{byTree}
 use Rattle.rules.specs.Open.{childAt, childrenFormed, flagsEmpty, treesFormed, cpusFormed, childSettled, treeCount, cpuCount, childCount, treeSettled, settled}
 use Rattle.rules.specs.Events.{Cpu, resting}
-use Rattle.rules.specs.Promise.{covers, covered, takenAt, ownedBy}
+use Rattle.rules.specs.Promise.{covers, covered, takenAt, reservedAt, holdsAt, ownedBy}
 use Rattle.rules.proofs.Guards.{cpu-elim}
 use Rattle.rules.proofs.Shapes.{child-in}
 use Rattle.rules.proofs.Fresh.{child-at}
-use Rattle.rules.proofs.Own.{freeOf, Survived, taken-owned, free-unowned, owned-survived}
-use Rattle.rules.proofs.Shares.{baseOf, wholeOf, share, lowOf, owed}
-use Rattle.rules.proofs.Upper.{entryAt, tallyAt}
+use Rattle.rules.proofs.Fields.{flag-bit}
+use Rattle.rules.proofs.Own.{bitAt, freeOf, Survived, taken-owned, free-unowned, owned-survived}
+use Rattle.rules.proofs.Shares.{baseOf, wholeOf, share, has, lowOf, owed, reserves}
+use Rattle.rules.proofs.Upper.{entryAt, tallyAt, flagAt}
 use Rattle.rules.proofs.Sizes.{run-some, run-inside}
 use Rattle.rules.proofs.Invariant.{BlockIn, AllIn, weighs, freeTree, Up}
 use Rattle.rules.proofs.Readings.{tree-says}
@@ -104,9 +106,13 @@ module _ (n : ℕ) (z : Zone) (cs : ℕ → Cpu) (held lost : List Block) (u : U
   under : Survived n (z .children) (z .words) (λ f. weighs (baseOf f) held lost C cs) (λ c. weighs (wholeOf c) held lost C cs)
   under = owned-survived n (z .children) (z .words) _ _ _ (u .lower)
 
+  -- the flag alone says what the entry says
+  pub taken-is : (f : ℕ) → f < childFrames * n → takenAt z f ≡ pick (isFlagged (getD (z .children) (f / childFrames) 0)) 1 (bitAt (z .words) f)
+  taken-is f h = ap (λ b. pick b 1 (bitAt (z .words) f)) (flag-bit _ (under .formed (f / childFrames) (omega arith)))
+
   -- what is taken is held or lost
   pub rest-taken : (f : ℕ) → f < childFrames * n → takenAt z f ≡ covered held f + covered lost f
-  rest-taken f h = taken-owned n (z .children) (z .words) _ _ under f h ∙ omega (arith, rest-weighs (baseOf f), rest-weighs (wholeOf (f / childFrames)), covered-is held f, covered-is lost f)
+  rest-taken f h = taken-is f h ∙ taken-owned n (z .children) (z .words) _ _ under f h ∙ omega (arith, rest-weighs (baseOf f), rest-weighs (wholeOf (f / childFrames)), covered-is held f, covered-is lost f)
 
   -- a child's free frames are those that the history leaves free
   abbrev Free : ℕ → ℕ → ℕ
@@ -150,6 +156,22 @@ module _ (n : ℕ) (z : Zone) (cs : ℕ → Cpu) (held lost : List Block) (u : U
       let e : childFrames * (t * perTree g + c) + i ≡ a + (c * childFrames + i) = omega arith in
       ap (λ x. 1 - (covered held x + covered lost x)) e))
       ∙ (sym (sum-groups k childFrames F) ∙ ap (λ x. sumTo x F) q))
+
+  -- every tree's r is the number of entries that hold it
+  rest-reserves : (t : ℕ) → sumTo C (λ j. reserves (cs j .latest) t) ≡ 0
+  unfolding reserves
+  rest-reserves t = sum-zero C (λ j. reserves (cs j .latest) t) (λ j h. ap (λ (c : Cpu). reserves (c .latest) t) (r j))
+
+  reserved-is : (t : ℕ) → t < treesOf g → reservedAt g z (tree t) ≡ flagAt (z .trees) t
+  unfolding reservedAt byTree
+  reserved-is t h = rw (tree-says n z cs held lost u (tree t) h)
+
+  holders-are : (t : ℕ) → sumTo C (holdsAt g z (tree t)) ≡ sumTo C (λ j. has t (entryAt g (z .cpus) j))
+  unfolding holdsAt has at
+  holders-are t = refl
+
+  pub rest-reserved : (t : ℕ) → t < treesOf g → reservedAt g z (tree t) ≡ sumTo C (holdsAt g z (tree t))
+  rest-reserved t h = omega (arith, reserved-is t h, holders-are t, u .upper .flags t h, rest-reserves t)
 
   -- ---- close answers Done
 

@@ -33,7 +33,7 @@ use Rattle.rules.proofs.Invariant.{AllIn, Up, answered}
 use Rattle.rules.proofs.Readings.{shape-is, open-skips}
 use Rattle.rules.proofs.Turns.{begun-up, get-step, as-many}
 use Rattle.rules.proofs.Histories.{in-phase, reached}
-use Rattle.rules.proofs.Rest.{block-ends, rest-taken}
+use Rattle.rules.proofs.Rest.{block-ends, taken-is, rest-taken}
 use Rattle.rules.proofs.Room.{takenIn, Short, taken-le, some-of}
 use Rattle.rules.proofs.Alone.{Bare, So}
 use Rattle.rules.proofs.Stays.{Said, step-on}
@@ -226,7 +226,7 @@ module _ (n : ℕ) (z : Zone) (cs : ℕ → Cpu) (held lost : List Block) (u : U
     was-free h = record {
       aligned = h;
       inside = subst (λ k. f .0 + size o ≤ childFrames * k) (sym H) ends-in;
-      free = λ k l. omega (arith, now (f .0 + k) (omega (arith, ends-in)), taken-le (z′ .children) (z′ .words) (f .0 + k), run-in (size o) (f .0) (f .0 + k) (omega arith) (omega arith));
+      free = λ k l. omega (arith, now (f .0 + k) (omega (arith, ends-in)), taken-is n z′ (x .cpus) (blockAt o f ∷ held) lost (x .up) (x .rest) (f .0 + k) (omega (arith, ends-in)), taken-le (z′ .children) (z′ .words) (f .0 + k), run-in (size o) (f .0) (f .0 + k) (omega arith) (omega arith));
     }
 
   -- no block handed out: the same frames are taken, and every tree is bare
@@ -242,7 +242,7 @@ module _ (n : ℕ) (z : Zone) (cs : ℕ → Cpu) (held lost : List Block) (u : U
     none-free : NoneFree z o
     none-free f h =
         let l : f + size o ≤ childFrames * n = subst (λ k. f + size o ≤ childFrames * k) H (h .inside) in
-        short-none n (size o) (parts o .0) (parts o .1) (z′ .children) (z′ .words) short f (h .aligned) l (λ i m. as-before (f + i) (omega arith) ∙ h .free i m)
+        short-none n (size o) (parts o .0) (parts o .1) (z′ .children) (z′ .words) short f (h .aligned) l (λ i m. let k : f + i < childFrames * n = omega arith in sym (taken-is n z′ (x .cpus) held lost (x .up) (x .rest) (f + i) k) ∙ as-before (f + i) k ∙ h .free i m)
 
   solo : Solo z j o
   solo = go ended

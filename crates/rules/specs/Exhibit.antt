@@ -1,10 +1,11 @@
--- One history that is reached, from a created zone of one huge frame and two CPUs: a steal, lost blocks, cuts inside opens, and a close.
+-- Histories that are reached. Here one huge frame and two CPUs: a steal, lost blocks, cuts inside opens, and a close; and a get cut before and after its bit is set. In Gallery two trees.
 use mathlib.Core.Path.{_≡_}
 use mathlib.Core.List.{List, [], _∷_, _++_}
 use Prim.Native.Nat.{ℕ}
 use lib.ListN.{length, replicate}
 use Rattle.rules.specs.Types.{Run, Order, Block, Taking, Opening, Record}
 use Rattle.rules.specs.Conversions.{frame, tree}
+use Rattle.rules.specs.Lower.{countWord}
 use Rattle.rules.specs.Zone.{Zone, shaped}
 use Rattle.rules.specs.Create.{createSteps}
 use Rattle.rules.specs.Fresh.{Fitting, creates}
@@ -109,14 +110,51 @@ pub record Shows (s : State) : Type 0 where
   pub ended : Stands (history toEnd s) ready (base 3 ∷ []) (base 2 ∷ base 1 ∷ [])
   pub rests : AtRest (history toEnd s)
 
--- where it begins: the zone that create leaves for one huge frame
-abbrev pub begins : Zone → State
-begins z = started (creates 1 z (createSteps (shaped 1 z)) .zone)
+-- ---- "A get cut after its child's count fell but before its bit is set loses nothing; cut after the bit is set, one frame"
+
+-- CPU 0 gets frame 0, begins another get and makes k of its steps
+abbrev pub begun : ℕ → List Event
+begun k = got ++ call (get 0 0) ∷ times k (stepOf 0)
+
+-- and the power goes; an open: its first step, the child, the tree, two CPUs
+abbrev pub cutAfter : ℕ → List Event
+cutAfter k = begun k ++ cut (7 ∷ []) (9 ∷ 9 ∷ []) ∷ call openFirst ∷ times 4 openLater
+
+-- what survives a cut: the first word, and seven that are zero; and the child's count
+pub record Keeps (s : State) (word count : ℕ) : Type 0 where
+  pub words : s .zone .words ≡ word ∷ replicate 7 0
+  pub children : s .zone .children ≡ countWord count ∷ []
+
+pub record CutBefore (s : State) : Type 0 where
+  -- frame 0's bit is set, and the child counts 511
+  pub before : Keeps (history got s) 1 511
+  -- the count fell, and no bit was set
+  pub fell : Keeps (history (begun 2) s) 1 510
+  -- cut there, the get loses nothing, and after the open all is as before it
+  pub nothing : Stands (history (cutAfter 2) s) ready (base 0 ∷ []) []
+  pub again : Keeps (history (cutAfter 2) s) 1 511
+
+pub record CutLater (s : State) : Type 0 where
+  -- a step later frame 1's bit is set
+  pub set : Keeps (history (begun 3) s) 3 510
+  -- cut there, the get loses that frame
+  pub one : Stands (history (cutAfter 3) s) ready (base 0 ∷ []) (base 1 ∷ [])
+  pub gone : Keeps (history (cutAfter 3) s) 3 510
+
+-- ---- where a history begins: the zone that create leaves for n huge frames
+abbrev pub begins : ℕ → Zone → State
+begins n z = started (creates n z (createSteps (shaped n z)) .zone)
+
+-- a history of the events l, in which S holds of the state that it begins with
+pub record Exhibited (n c : ℕ) (l : List Event) (S : State → Type 0) : Type 0 where
+  -- there are tables that fit n huge frames, with c CPUs
+  pub tables : (z : Zone) × Fitting n z × (length (z .cpus) ≡ c)
+  -- and from all such tables
+  pub shows : (z : Zone) → Fitting n z → length (z .cpus) ≡ c → S (begins n z)
+  -- every event is admitted
+  pub reached : (z : Zone) → Fitting n z → length (z .cpus) ≡ c → Reach n (history l (begins n z))
 
 pub record Exhibit : Type 0 where
-  -- there are tables that fit, with two CPUs
-  pub tables : (z : Zone) × Fitting 1 z × (length (z .cpus) ≡ 2)
-  -- and from all such tables
-  pub shows : (z : Zone) → Fitting 1 z → length (z .cpus) ≡ 2 → Shows (begins z)
-  -- every event is admitted
-  pub reached : (z : Zone) → Fitting 1 z → length (z .cpus) ≡ 2 → Reach 1 (history toEnd (begins z))
+  pub steal : Exhibited 1 2 toEnd Shows
+  pub cutBefore : Exhibited 1 2 (cutAfter 2) CutBefore
+  pub cutLater : Exhibited 1 2 (cutAfter 3) CutLater

@@ -17,7 +17,9 @@ pub mod Step
 pub mod Create
 pub mod Open
 pub mod Worked
+pub mod Classes
 pub mod Bounds
+pub mod InRange
 pub mod Refusals
 pub mod Fresh
 pub mod Layouts
@@ -26,3 +28,5 @@ pub mod Promise
 pub mod Solo
 pub mod Reopen
 pub mod Exhibit
+pub mod Gallery
+pub mod Many

@@ -1,4 +1,4 @@
--- The lower level: one child entry, one word, a tree's part of both. Nothing outside this file reads a child or a word.
+-- The lower level: one child entry, one word, a tree's part of both. What a child says, and how a rule changes a child or a word, stands here alone: the rules above name the entry and cite these definitions.
 use mathlib.Core.Bool.{Bool, true, false}
 use mathlib.Core.List.{List, [], _∷_}
 use Prim.Native.Nat.{ℕ, zero, suc, _+_, _-_, _*_, _/_, _^_}

@@ -38,6 +38,6 @@ module _ (fuel : ℕ) (z : Zone) {y : Way} where
   unfolding wentTo
   way-stepped q s = rw q s
 
--- a run from its first step on
-pub from-none : (fuel : ℕ) (y : Way) (z′ z : Zone) (r : Record) {o : Ran} → o ≡ wentTo step fuel y z′ → WentOn step fuel 0 r y z′ z → o ≡ runs fuel z r
-from-none fuel y z′ z r q w = q ∙ (rw sub-zero at w)
+-- a run from its first step on, of n steps at most
+pub from-none : (fuel : ℕ) (y : Way) (z′ z : Zone) (r : Record) {n : ℕ} {o : Ran} → fuel ≡ n → o ≡ wentTo step fuel y z′ → WentOn step fuel 0 r y z′ z → o ≡ runs n z r
+from-none fuel y z′ z r e q w = rw (← e) (q ∙ (rw sub-zero at w))

@@ -1,6 +1,6 @@
 // Runs of gets and puts. A run from a first stage goes on as far as the shorter ways lead; what is left is made by single steps.
 ghost use mathlib.Core.Path.{_≡_};
-ghost use Prim.Native.Nat.{_-_};
+ghost use Prim.Native.Nat.{_-_, max};
 ghost use Rattle.rules.specs.Step.{step, runs, follow};
 ghost use Rattle.calls.specs.Results.{zone, ranTo, WentOn};
 use calls::Ended;
@@ -75,7 +75,7 @@ fn first_way(
     }
 }
 
-// Up to `fuel` steps of a get or put in one call, counted. Out of steps it answers 1 with the record. A refused step stores nothing: the tables are
+// Up to `fuel` steps of a get or put in one call, one at least, counted. Out of steps it answers 1 with the record. A refused step stores nothing: the tables are
 // those after the last good step. For memory without cuts: a cut is admitted between calls only, and memory that survives one is driven by single steps.
 pub fn run(
     header: &[u64],
@@ -86,9 +86,10 @@ pub fn run(
     rec: Record,
     fuel: u64,
 ) -> Ended
-    ensures { λ r. ⌜ ranTo r (zone (now (header .entry)) (now (words .exit)) (now (children .exit)) (now (trees .exit)) (now (cpus .exit))) ≡ runs fuel (zone (now (header .entry)) (now (words .entry)) (now (children .entry)) (now (trees .entry)) (now (cpus .entry))) rec ⌝ }
+    ensures { λ r. ⌜ ranTo r (zone (now (header .entry)) (now (words .exit)) (now (children .exit)) (now (trees .exit)) (now (cpus .exit))) ≡ runs (max 1 fuel) (zone (now (header .entry)) (now (words .entry)) (now (children .entry)) (now (trees .entry)) (now (cpus .entry))) rec ⌝ }
 {
-    match first_way(header, words, children, trees, cpus, rec, fuel) {
+    let most = calls::at_least_one(fuel);
+    match first_way(header, words, children, trees, cpus, rec, most) {
         Way::Ends(ended) => ended,
         Way::Goes { rec: next, steps } => step_on(
             header,
@@ -98,7 +99,7 @@ pub fn run(
             cpus,
             next,
             steps,
-            fuel,
+            most,
         ),
     }
 }

@@ -31,7 +31,7 @@ fn two_calls(zone: &mut Zone, record: &mut [u64], asked: Asked, fuel: u64) -> Ra
         Some(frame) => zone.tables().put(record, cpu, frame, order),
     };
     match begun.number {
-        1 => zone.tables().run(record, fuel),
+        1 if fuel > 0 => zone.tables().run(record, fuel),
         number => Ran {
             number,
             frame: begun.frame,

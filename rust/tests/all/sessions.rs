@@ -78,12 +78,25 @@ fn a_run_short_of_steps_goes_on() {
     let mut zone = created(65, 2);
     let mut record = zone.begin_get(0, Base).unwrap();
     for (fuel, answer, steps) in [
-        (0, Answer::UnderWay, 0),
+        (0, Answer::UnderWay, 1),
         (4, Answer::UnderWay, 4),
-        (4, Answer::UnderWay, 4),
-        (4, Answer::Done(0), 1),
+        (4, Answer::Done(0), 4),
     ] {
         assert_eq!(zone.run(&mut record, fuel), Run { answer, steps });
+    }
+}
+
+#[test]
+fn a_run_without_fuel_makes_a_step() {
+    let mut zone = created(65, 2);
+    for words in [[0, 0], [u64::MAX, 0]] {
+        for run in [
+            zone.tables().run(&mut words.clone(), 0),
+            zone.tables().create_run(&mut words.clone(), 65, 0),
+            zone.tables().open_run(&mut words.clone(), 0),
+        ] {
+            assert_eq!((run.number, run.steps), (11, 1));
+        }
     }
 }
 

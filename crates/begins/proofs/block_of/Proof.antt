@@ -16,7 +16,7 @@ rem-if1 : tie.Need-rem-if1
 rem-if1 c = omega (arith, c .before .frames-of .ensures, size-some (c .before .before .args .order))
 
 returns : tie.Need-returns
-returns c = record { come = put-misaligned _ _ _ (c .before .before .frames-of .ensures) (c .if1 .taken) }
+returns c = record { come = (omega arith, put-misaligned _ _ _ (c .before .before .frames-of .ensures) (c .if1 .taken)) }
 
 enum-known-order : tie.Need-enum-known-order
 enum-known-order c = search needs

@@ -1,11 +1,35 @@
 use Rattle.rules.specs.Create.{createStep}
-use Rattle.capi.proofs.Calls.{one-step}
+use Rattle.capi.proofs.Calls.{made-not, made-so, lent-step}
 use borrow.Author.Needs.{needs}
 use Rattle.capi.proofs.lovarntek_create_step.Statement.{statement}
 use Rattle.capi.proofs.lovarntek_create_step.Tie as tie
 
-create-on-requires : tie.Need-create-on-requires
-create-on-requires c κs = search needs
+no-create-record-requires : tie.Need-no-create-record-requires
+no-create-record-requires c κs = search needs
+
+told-requires : tie.Need-told-requires
+told-requires c κs = search needs
+
+returns : tie.Need-returns
+returns c = made-not _ _ _ _ (c .before .before .if1 .taken) (c .before .no-create-record .ensures) (c .told .ensures)
+
+slice-read-decode : tie.Need-slice-read-decode
+slice-read-decode c = search needs
+
+slice-read-decode-2 : tie.Need-slice-read-decode-2
+slice-read-decode-2 c = search needs
+
+decode-requires : tie.Need-decode-requires
+decode-requires c κs = search needs
+
+create-step-requires : tie.Need-create-step-requires
+create-step-requires c κs = search needs
+
+hand-back-requires : tie.Need-hand-back-requires
+hand-back-requires c κs = search needs
+
+told-requires-2 : tie.Need-told-requires-2
+told-requires-2 c κs = search needs
 
 same-length : tie.Need-same-length
 same-length c = search needs
@@ -25,18 +49,26 @@ same-length-5 c = search needs
 same-length-6 : tie.Need-same-length-6
 same-length-6 c = search needs
 
-returns : tie.Need-returns
-returns c = one-step _ _ _ (createStep _) _ (c .before .before .before .before .before .before .before .before .before .before .before .before .create-on .ensures)
+returns-2 : tie.Need-returns-2
+returns-2 c = made-so _ _ _ _ (c .before .before .before .before .before .before .before .before .before .before .before .before .before .before .before .before .before .before .before .before .before .before .before .before .if1 .left) (lent-step (createStep _) _ (c .before .before .before .before .before .before .before .before .before .before .before .before .before .before .before .before .before .before .before .before .before .decode .ensures) (c .before .before .before .before .before .before .before .before .before .before .before .before .before .before .before .create-step .ensures)) (c .before .before .before .hand-back .ensures) (c .told2 .ensures)
 
 pub lovarntek-create-step-spec : {M : Type 1} → statement M
 lovarntek-create-step-spec =
     tie.close
     (tie.spec
-    create-on-requires
+    no-create-record-requires
+    told-requires
+    returns
+    slice-read-decode
+    slice-read-decode-2
+    decode-requires
+    create-step-requires
+    hand-back-requires
+    told-requires-2
     same-length
     same-length-2
     same-length-3
     same-length-4
     same-length-5
     same-length-6
-    returns)
+    returns-2)

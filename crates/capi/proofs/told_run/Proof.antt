@@ -1,7 +1,7 @@
 use mathlib.Core.Path.{ap, _∙_}
 use mathlib.Core.Logic.{⊎-elim}
 use lib.ListN.{length}
-use Rattle.capi.proofs.Calls.{laid-length, back-next, back-last, same-run}
+use Rattle.capi.proofs.Calls.{laid-length, back-next, back-last, run-told}
 use borrow.Author.Needs.{needs}
 use Rattle.capi.proofs.told_run.Statement.{statement}
 use Rattle.capi.proofs.told_run.Tie as tie
@@ -31,7 +31,7 @@ same-length : tie.Need-same-length
 same-length c = ⊎-elim (λ w. ap length (w .7 ∙ w .4 .ensures) ∙ laid-length _ _) (λ w. ap length (w .6 ∙ w .3 .ensures) ∙ laid-length _ _) (c .before .before .match .came)
 
 returns : tie.Need-returns
-returns c = same-run (c .before .before .before .before .before .args .answer) (c .before .number-of .ensures) (c .frame-of .ensures) (⊎-elim (λ w. back-next (c .before .before .before .before .before .args .answer) _ (c .before .before .before .next-of .ensures) (w .1 .given .1) (w .7 ∙ w .4 .ensures)) (λ w. back-last (c .before .before .before .before .before .args .answer) _ (c .before .before .before .next-of .ensures) (w .1 .given .1) (w .6 ∙ w .3 .ensures)) (c .before .before .match .came))
+returns c = run-told (c .before .before .before .before .before .args .answer) (c .before .number-of .ensures) (c .frame-of .ensures) (⊎-elim (λ w. back-next (c .before .before .before .before .before .args .answer) _ (c .before .before .before .next-of .ensures) (w .1 .given .1) (w .7 ∙ w .4 .ensures)) (λ w. back-last (c .before .before .before .before .before .args .answer) _ (c .before .before .before .next-of .ensures) (w .1 .given .1) (w .6 ∙ w .3 .ensures)) (c .before .before .match .came))
 
 pub told-run-spec : {M : Type 1} → statement M
 told-run-spec =

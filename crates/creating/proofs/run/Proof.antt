@@ -1,5 +1,5 @@
 use mathlib.Core.Path.{_≡_, refl, sym, _∙_}
-use Prim.Native.Nat.{_-_, _≤_}
+use Prim.Native.Nat.{_-_, _≤_, max}
 use native.Mathlib.Nat.{sub-zero}
 use lib.ListN.{length}
 use borrow.Author.Needs.{needs}
@@ -12,14 +12,17 @@ use Rattle.creating.proofs.run.Statement.{statement}
 use Rattle.creating.proofs.run.Tie as tie
 
 abbrev Inv-loop : tie.InvT-loop
-Inv-loop header₀ words₀ children₀ trees₀ cpus₀ huge fuel at₀ steps₀ header words children trees cpus at steps =
-    (length header ≡ length header₀) × (length words ≡ length words₀) × (length children ≡ length children₀) × (length trees ≡ length trees₀) × (length cpus ≡ length cpus₀) × (steps ≤ fuel) × (follow (createStep huge) (fuel - steps) steps (Answer.UnderWay at) (zone header words children trees cpus) ≡ follow (createStep huge) fuel 0 (Answer.UnderWay at₀) (zone header₀ words₀ children₀ trees₀ cpus₀))
+Inv-loop header₀ words₀ children₀ trees₀ cpus₀ huge fuel most at₀ steps₀ header words children trees cpus at steps =
+    (length header ≡ length header₀) × (length words ≡ length words₀) × (length children ≡ length children₀) × (length trees ≡ length trees₀) × (length cpus ≡ length cpus₀) × (steps ≤ most) × (follow (createStep huge) (most - steps) steps (Answer.UnderWay at) (zone header words children trees cpus) ≡ follow (createStep huge) (max 1 fuel) 0 (Answer.UnderWay at₀) (zone header₀ words₀ children₀ trees₀ cpus₀))
 
 abbrev μ-loop : tie.MeasureT-loop
-μ-loop header₀ words₀ children₀ trees₀ cpus₀ huge fuel at₀ steps₀ header words children trees cpus at steps = fuel - steps
+μ-loop header₀ words₀ children₀ trees₀ cpus₀ huge fuel most at₀ steps₀ header words children trees cpus at steps = most - steps
+
+at-least-one-requires : tie.Need-at-least-one-requires Inv-loop μ-loop
+at-least-one-requires c κs = search needs
 
 loop-holds : tie.Need-loop-holds Inv-loop μ-loop
-loop-holds c = (refl, refl, refl, refl, refl, search needs, rw sub-zero refl)
+loop-holds c = (refl, refl, refl, refl, refl, search needs, rw (sub-zero, c .at-least-one .ensures) refl)
 
 create-step-requires : tie.Need-create-step-requires Inv-loop μ-loop
 create-step-requires c κs = search needs
@@ -84,6 +87,7 @@ run-spec =
     (tie.spec
     Inv-loop
     μ-loop
+    at-least-one-requires
     loop-holds
     create-step-requires
     add-steps

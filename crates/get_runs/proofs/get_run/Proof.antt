@@ -33,7 +33,7 @@ same-length-3 : tie.Need-same-length-3
 same-length-3 c = search needs
 
 returns : tie.Need-returns
-returns c = way-refused step _ _ (beginGet _ _ _) _ (rw (c .before .before .answer .given .1) at (c .before .before .before .before .get-of .ensures .come)) (c .way-of .ensures)
+returns c = way-refused step _ _ (beginGet _ _ _) _ ((rw (c .before .before .answer .given .1) at (c .before .before .before .before .get-of .ensures .come)) .1) (c .way-of .ensures)
 
 same-length-4 : tie.Need-same-length-4
 same-length-4 c = search needs

@@ -9,9 +9,9 @@ use Rattle.laws.specs.Sum.{sumTo}
 use Rattle.laws.proofs.Tests.{pick-yes, pick-no}
 use Rattle.rules.specs.Numbers.{childFrames}
 use Rattle.rules.specs.Lower.{partSum}
+use Rattle.rules.proofs.Fields.{count-few}
 use Rattle.lower.specs.Types.{Summed}
 use Rattle.lower.specs.Steps.{sumIn}
-use Rattle.lower.proofs.Entries.{count-few}
 use Rattle.lower.proofs.sum.Statement.{statement}
 use Rattle.lower.proofs.sum.Tie as tie
 

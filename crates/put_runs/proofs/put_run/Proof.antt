@@ -36,7 +36,7 @@ same-length-4 : tie.Need-same-length-4
 same-length-4 c = search needs
 
 returns : tie.Need-returns
-returns c = way-refused step _ _ (beginPut _ _ _ _) _ (rw (c .before .before .answer .given .1) at (c .before .before .before .before .put-of .ensures .come)) (c .way-of .ensures)
+returns c = way-refused step _ _ (beginPut _ _ _ _) _ ((rw (c .before .before .answer .given .1) at (c .before .before .before .before .put-of .ensures .come)) .1) (c .way-of .ensures)
 
 same-length-5 : tie.Need-same-length-5
 same-length-5 c = search needs

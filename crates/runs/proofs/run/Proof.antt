@@ -3,6 +3,9 @@ use borrow.Author.Needs.{needs}
 use Rattle.runs.proofs.run.Statement.{statement}
 use Rattle.runs.proofs.run.Tie as tie
 
+at-least-one-requires : tie.Need-at-least-one-requires
+at-least-one-requires c κs = search needs
+
 first-way-requires : tie.Need-first-way-requires
 first-way-requires c κs = search needs
 
@@ -28,7 +31,7 @@ same-length-4 : tie.Need-same-length-4
 same-length-4 c = search needs
 
 returns : tie.Need-returns
-returns c = from-none _ _ _ _ _ (way-ended _ _ (c .before .ended .given .1)) (c .before .before .before .before .before .before .before .before .before .before .before .first-way .ensures)
+returns c = from-none _ _ _ _ _ (c .before .before .before .before .before .before .before .before .before .before .before .before .before .before .before .before .at-least-one .ensures) (way-ended _ _ (c .before .ended .given .1)) (c .before .before .before .before .before .before .before .before .before .before .before .first-way .ensures)
 
 same-length-5 : tie.Need-same-length-5
 same-length-5 c = search needs
@@ -43,12 +46,13 @@ same-length-8 : tie.Need-same-length-8
 same-length-8 c = search needs
 
 returns-2 : tie.Need-returns-2
-returns-2 c = from-none _ _ _ _ _ (way-stepped _ _ (c .before .before .before .before .before .before .before .before .before .before .before .before .before .before .next .given .1) (c .before .before .before .before .before .before .before .before .step-on .ensures)) (c .before .before .before .before .before .before .before .before .before .before .before .before .before .before .before .before .before .before .before .before .before .before .before .before .first-way .ensures)
+returns-2 c = from-none _ _ _ _ _ (c .before .before .before .before .before .before .before .before .before .before .before .before .before .before .before .before .before .before .before .before .before .before .before .before .before .before .before .before .before .at-least-one .ensures) (way-stepped _ _ (c .before .before .before .before .before .before .before .before .before .before .before .before .before .before .next .given .1) (c .before .before .before .before .before .before .before .before .step-on .ensures)) (c .before .before .before .before .before .before .before .before .before .before .before .before .before .before .before .before .before .before .before .before .before .before .before .before .first-way .ensures)
 
 pub run-spec : {M : Type 1} → statement M
 run-spec =
     tie.close
     (tie.spec
+    at-least-one-requires
     first-way-requires
     enum-known-ended
     enum-known-next

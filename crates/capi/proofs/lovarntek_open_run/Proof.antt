@@ -2,8 +2,8 @@ use Rattle.rules.specs.Open.{openStep}
 use mathlib.Core.Path.{_∙_}
 use Rattle.capi.proofs.Calls.{followed-not, followed-so, lent}
 use borrow.Author.Needs.{needs}
-use Rattle.capi.proofs.open_on.Statement.{statement}
-use Rattle.capi.proofs.open_on.Tie as tie
+use Rattle.capi.proofs.lovarntek_open_run.Statement.{statement}
+use Rattle.capi.proofs.lovarntek_open_run.Tie as tie
 
 no-record-requires : tie.Need-no-record-requires
 no-record-requires c κs = search needs
@@ -47,8 +47,8 @@ same-length-5 c = search needs
 returns-2 : tie.Need-returns-2
 returns-2 c = followed-so _ _ _ _ (c .before .before .before .before .before .before .before .before .before .before .before .before .before .before .before .before .before .if1 .left) (c .before .before .before .before .before .before .before .before .before .before .run .ensures ∙ lent openStep _ _ (c .before .before .before .before .before .before .before .before .before .before .before .before .before .before .decode .ensures)) (c .before .before .told-run2 .ensures)
 
-pub open-on-spec : {M : Type 1} → statement M
-open-on-spec =
+pub lovarntek-open-run-spec : {M : Type 1} → statement M
+lovarntek-open-run-spec =
     tie.close
     (tie.spec
     no-record-requires

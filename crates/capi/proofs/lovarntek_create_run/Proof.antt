@@ -2,8 +2,8 @@ use Rattle.rules.specs.Create.{createStep}
 use mathlib.Core.Path.{_∙_}
 use Rattle.capi.proofs.Calls.{followed-not, followed-so, lent}
 use borrow.Author.Needs.{needs}
-use Rattle.capi.proofs.create_on.Statement.{statement}
-use Rattle.capi.proofs.create_on.Tie as tie
+use Rattle.capi.proofs.lovarntek_create_run.Statement.{statement}
+use Rattle.capi.proofs.lovarntek_create_run.Tie as tie
 
 no-create-record-requires : tie.Need-no-create-record-requires
 no-create-record-requires c κs = search needs
@@ -53,8 +53,8 @@ same-length-7 c = search needs
 returns-2 : tie.Need-returns-2
 returns-2 c = followed-so _ _ _ _ (c .before .before .before .before .before .before .before .before .before .before .before .before .before .before .before .before .before .before .before .before .before .before .before .if1 .left) (c .before .before .before .before .before .before .before .before .before .before .before .before .before .before .run .ensures ∙ lent (createStep _) _ _ (c .before .before .before .before .before .before .before .before .before .before .before .before .before .before .before .before .before .before .before .before .decode .ensures)) (c .before .before .told-run2 .ensures)
 
-pub create-on-spec : {M : Type 1} → statement M
-create-on-spec =
+pub lovarntek-create-run-spec : {M : Type 1} → statement M
+lovarntek-create-run-spec =
     tie.close
     (tie.spec
     no-create-record-requires

@@ -1,0 +1,1 @@
+// No function: the calls as C makes them are the calls of a history.
