@@ -20,7 +20,7 @@ use Rattle.rules.specs.declared.Block.{Block}
 use Rattle.rules.specs.declared.Taking.{Taking}
 use Rattle.entries.specs.Sizes.{huge_of}
 use Rattle.begins.specs.Types.{Frame, Run, Order, Giving, Record, Answer, Shape, Checked, OrderAt, Putting}
-use Rattle.calls.specs.Results.{zone, result, done}
+use Rattle.calls.specs.Results.{zone, result_of, done}
 use Rattle.begins.specs.Begun.{PutsBy, PutsAtBy, Puts, PutsAt}
 use Rattle.begins.specs.Orders.{order_at_in, put_of}
 use Rattle.calls.proofs.Opened.{stores_nothing, stands, passed_by, checked_in, checked_refused, checked_open, refused_ends}
@@ -63,7 +63,7 @@ module _ (h w c t p : List ℕ) (cpu o : ℕ) where
   abbrev got : Plan
   got = refuse (Answer.UnderWay (Record.Get cpu (Taking.Own (order_of o))))
 
-  pub get_refused : {a : Answer} → checked_in h w c t p ≡ Checked.Refused a → (2 ≤ number a) × (result a z ≡ done z (begin_get z cpu o))
+  pub get_refused : {a : Answer} → checked_in h w c t p ≡ Checked.Refused a → (2 ≤ number a) × (result_of a z ≡ done z (begin_get z cpu o))
   unfolding begin_get
   get_refused e = (refused_ends h w c t p e, stores_nothing z (checked_refused h w c t p e (bad_cpu z cpu ∷ bad_order o ∷ []) got))
 
@@ -71,7 +71,7 @@ module _ (h w c t p : List ℕ) (cpu o : ℕ) where
     abbrev put : Plan
     put = refuse (Answer.UnderWay (Record.Put cpu (Giving.Clear (block_at (order_of o) f))))
 
-    pub put_refused : {a : Answer} → checked_in h w c t p ≡ Checked.Refused a → (2 ≤ number a) × (result a z ≡ done z (begin_put z cpu f o))
+    pub put_refused : {a : Answer} → checked_in h w c t p ≡ Checked.Refused a → (2 ≤ number a) × (result_of a z ≡ done z (begin_put z cpu f o))
     unfolding begin_put
     put_refused e = (refused_ends h w c t p e, stores_nothing z (checked_refused h w c t p e (bad_cpu z cpu ∷ bad_order o ∷ bad_frame z f ∷ misaligned o f ∷ []) put))
 
@@ -92,32 +92,32 @@ module _ (h w c t p : List ℕ) (cpu o : ℕ) where
     huge_same : (shape_of z).huge ≡ huge_of s.size
     huge_same = ap (λ g. g.huge) (checked_open h w c t p e).0
 
-    pub get_bad_cpu : s.cpus ≤ cpu → result Answer.BadCpu z ≡ done z (begin_get z cpu o)
+    pub get_bad_cpu : s.cpus ≤ cpu → result_of Answer.BadCpu z ≡ done z (begin_get z cpu o)
     unfolding begin_get
     get_bad_cpu b = stores_nothing z (no_cpu b (bad_order o ∷ []) got)
 
-    pub get_bad_order : cpu < s.cpus → order_at_in o ≡ OrderAt.Nowhere → result Answer.BadOrder z ≡ done z (begin_get z cpu o)
+    pub get_bad_order : cpu < s.cpus → order_at_in o ≡ OrderAt.Nowhere → result_of Answer.BadOrder z ≡ done z (begin_get z cpu o)
     unfolding begin_get
     get_bad_order b n = stores_nothing z (bad_order_lem b n [] got)
 
-    pub get_begun : cpu < s.cpus → {k : Order} → order_at_in o ≡ OrderAt.At k → result (Answer.UnderWay (Record.Get cpu (Taking.Own k))) z ≡ done z (begin_get z cpu o)
+    pub get_begun : cpu < s.cpus → {k : Order} → order_at_in o ≡ OrderAt.At k → result_of (Answer.UnderWay (Record.Get cpu (Taking.Own k))) z ≡ done z (begin_get z cpu o)
     unfolding begin_get guarded
     get_begun b n = stores_nothing z (good_order b n [] got ∙ ap (λ k. refuse (Answer.UnderWay (Record.Get cpu (Taking.Own k)))) (an_order o n).1)
 
     module _ (f : Frame) where
-      pub put_bad_cpu : s.cpus ≤ cpu → result Answer.BadCpu z ≡ done z (begin_put z cpu f o)
+      pub put_bad_cpu : s.cpus ≤ cpu → result_of Answer.BadCpu z ≡ done z (begin_put z cpu f o)
       unfolding begin_put
       put_bad_cpu b = stores_nothing z (no_cpu b (bad_order o ∷ bad_frame z f ∷ misaligned o f ∷ []) (put f))
 
-      pub put_bad_order : cpu < s.cpus → order_at_in o ≡ OrderAt.Nowhere → result Answer.BadOrder z ≡ done z (begin_put z cpu f o)
+      pub put_bad_order : cpu < s.cpus → order_at_in o ≡ OrderAt.Nowhere → result_of Answer.BadOrder z ≡ done z (begin_put z cpu f o)
       unfolding begin_put
       put_bad_order b n = stores_nothing z (bad_order_lem b n (bad_frame z f ∷ misaligned o f ∷ []) (put f))
 
-      pub put_bad_frame : cpu < s.cpus → {k : Order} → order_at_in o ≡ OrderAt.At k → {n : ℕ} → n ≡ huge_of s.size → n * child_frames ≤ f.0 → result Answer.BadFrame z ≡ done z (begin_put z cpu f o)
+      pub put_bad_frame : cpu < s.cpus → {k : Order} → order_at_in o ≡ OrderAt.At k → {n : ℕ} → n ≡ huge_of s.size → n * child_frames ≤ f.0 → result_of Answer.BadFrame z ≡ done z (begin_put z cpu f o)
       unfolding begin_put
       put_bad_frame b n m l = stores_nothing z (good_order b n (bad_frame z f ∷ misaligned o f ∷ []) (put f) ∙ stands (bad_frame z f) (misaligned o f ∷ []) (put f) (le-leb _ _ (rw (m, ← huge_same) at l)))
 
-      pub put_begun : cpu < s.cpus → {k : Order} → order_at_in o ≡ OrderAt.At k → {n : ℕ} → n ≡ huge_of s.size → f.0 < n * child_frames → {a : Answer} → a ≡ put_of cpu f k → result a z ≡ done z (begin_put z cpu f o)
+      pub put_begun : cpu < s.cpus → {k : Order} → order_at_in o ≡ OrderAt.At k → {n : ℕ} → n ≡ huge_of s.size → f.0 < n * child_frames → {a : Answer} → a ≡ put_of cpu f k → result_of a z ≡ done z (begin_put z cpu f o)
       unfolding begin_put guarded put_of
       put_begun b n m l r = stores_nothing z
           (good_order b n (bad_frame z f ∷ misaligned o f ∷ []) (put f) ∙ passed_by (bad_frame z f) (misaligned o f ∷ []) (put f) (lt-leb _ _ (rw (m, ← huge_same) at l)) ∙ refused_unless (eqb (f.0 % size (order_of o)) 0) _ _ ∙ ap (λ k. refuse (put_of cpu f k)) (an_order o n).1 ∙ ap refuse (sym r))

@@ -6,16 +6,16 @@ use Rattle.rules.specs.Zone.{Zone}
 use Rattle.rules.specs.Plan.{Plan}
 use Rattle.rules.specs.Answers.{number}
 use Rattle.rules.specs.Begin.{begin_get, begin_put}
-use Rattle.calls.specs.Results.{result, done}
+use Rattle.calls.specs.Results.{result_of, done}
 use Rattle.calls.proofs.Same.{same_result}
 use Rattle.begins.specs.Types.{Frame, Record, Answer, Getting, Putting}
 use Rattle.begins.specs.Begun.{GetsBy, PutsBy, Gets, Puts}
 
 module _ (z : Zone) (p : Plan) where
-  same_answer : {a b : Answer} → result a z ≡ done z p → result b z ≡ done z p → a ≡ b
+  same_answer : {a b : Answer} → result_of a z ≡ done z p → result_of b z ≡ done z p → a ≡ b
   same_answer {a} {b} e q = (same_result (done z p) a b _ _ e q).0
 
-  not_both : {B : Type 0} {a : Answer} {r : Record} → (2 ≤ number a) × (result a z ≡ done z p) → result (Answer.UnderWay r) z ≡ done z p → B
+  not_both : {B : Type 0} {a : Answer} {r : Record} → (2 ≤ number a) × (result_of a z ≡ done z p) → result_of (Answer.UnderWay r) z ≡ done z p → B
   not_both e q = let n = ap number (same_answer e.1 q) in absurd (omega (arith, e.0, n))
 
 -- two results that the contract of `get_of` permits are equal

@@ -3,20 +3,20 @@ use Rattle.std.specs.Prelude.{◌≡◌, ℕ, ◌≤◌}
 use Rattle.rules.specs.Zone.{Zone}
 use Rattle.rules.specs.Answers.{number}
 use Rattle.rules.specs.Begin.{begin_get, begin_put}
-use Rattle.calls.specs.Results.{result, done, Opened}
+use Rattle.calls.specs.Results.{result_of, done, Opened}
 use Rattle.begins.specs.Types.{Frame, Order, Taking, Giving, Record, Answer, Shape, Getting, Putting}
 use Rattle.begins.specs.Orders.{put_of}
 
 abbrev pub GetsBy : Zone → ℕ → ℕ → Getting → Type 0
-GetsBy z cpu o (Getting.Refused a) = (2 ≤ number a) × (result a z ≡ done z (begin_get z cpu o))
-GetsBy z cpu o (Getting.Of s j k) = Opened s j z.header z.words z.children z.trees z.cpus × (result (Answer.UnderWay (Record.Get j (Taking.Own k))) z ≡ done z (begin_get z cpu o))
+GetsBy z cpu o (Getting.Refused a) = (2 ≤ number a) × (result_of a z ≡ done z (begin_get z cpu o))
+GetsBy z cpu o (Getting.Of s j k) = Opened s j z.header z.words z.children z.trees z.cpus × (result_of (Answer.UnderWay (Record.Get j (Taking.Own k))) z ≡ done z (begin_get z cpu o))
 
 pub record Gets (z : Zone) (cpu o : ℕ) (x : Getting) : Type 0 where
   pub come : GetsBy z cpu o x
 
 abbrev pub PutsBy : Zone → ℕ → Frame → ℕ → Putting → Type 0
-PutsBy z cpu f o (Putting.Refused a) = (2 ≤ number a) × (result a z ≡ done z (begin_put z cpu f o))
-PutsBy z cpu f o (Putting.Of s j b) = Opened s j z.header z.words z.children z.trees z.cpus × (result (Answer.UnderWay (Record.Put j (Giving.Clear b))) z ≡ done z (begin_put z cpu f o))
+PutsBy z cpu f o (Putting.Refused a) = (2 ≤ number a) × (result_of a z ≡ done z (begin_put z cpu f o))
+PutsBy z cpu f o (Putting.Of s j b) = Opened s j z.header z.words z.children z.trees z.cpus × (result_of (Answer.UnderWay (Record.Put j (Giving.Clear b))) z ≡ done z (begin_put z cpu f o))
 
 pub record Puts (z : Zone) (cpu : ℕ) (f : Frame) (o : ℕ) (x : Putting) : Type 0 where
   pub come : PutsBy z cpu f o x

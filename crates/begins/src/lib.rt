@@ -1,7 +1,9 @@
 // The beginnings of gets and puts. Every check is made here, in document 01's order; nothing is stored.
+#![tactic(auto)]
+
 ghost use Rattle.std.specs.Prelude.{◌≡◌, ◌^◌, ◌<◌};
 ghost use Rattle.rules.specs.Begin.{begin_get, begin_put};
-ghost use Rattle.calls.specs.Results.{zone, result, done};
+ghost use Rattle.calls.specs.Results.{zone, result_of, done};
 ghost use Rattle.begins.specs.Orders.{order_at_in};
 ghost use Rattle.begins.specs.Begun.{Gets, Puts, PutsAt};
 
@@ -14,14 +16,14 @@ const CHILD_FRAMES: u64 = 512;
 // Orders 0 to 6.
 const RUNS: u64 = 7;
 
-#[derive(Drop)]
+#[derive(Clone, Copy)]
 enum OrderAt {
     At(Order),
     Nowhere,
 }
 
 fn order_at(order: u64) -> OrderAt
-    ensures* { λ r. ⌜ r ≡ order_at_in order ⌝ }
+    ensures { result ≡ order_at_in order }
 {
     if order < RUNS {
         return OrderAt::At(Order::Run(rules::run_of(order)));
@@ -35,7 +37,7 @@ fn order_at(order: u64) -> OrderAt
 // ---- gets
 
 // What the numbers of a get come to: the refusal, or the zone's shape, the CPU and the order.
-#[derive(Drop)]
+#[derive(Clone, Copy)]
 pub enum Getting {
     Refused(Answer),
     Of { shape: Shape, cpu: u8, order: Order },
@@ -51,7 +53,7 @@ pub fn get_of(
     cpu: u64,
     order: u64,
 ) -> Getting
-    ensures* { λ r. ⌜ Gets (zone header.now words.now children.now trees.now cpus.now) cpu order r ⌝ }
+    ensures { Gets (zone header.now words.now children.now trees.now cpus.now) cpu order result }
 {
     match calls::check(header, words.len(), children.len(), trees.len(), cpus.len()) {
         Checked::Refused(answer) => Getting::Refused(answer),
@@ -81,7 +83,7 @@ pub fn begin_get(
     cpu: u64,
     order: u64,
 ) -> Answer
-    ensures* { λ r. ⌜ result r (zone header.now words.now children.now trees.now cpus.now) ≡ done (zone header.now words.now children.now trees.now cpus.now) (begin_get (zone header.now words.now children.now trees.now cpus.now) cpu order) ⌝ }
+    ensures { result_of result (zone header.now words.now children.now trees.now cpus.now) ≡ done (zone header.now words.now children.now trees.now cpus.now) (begin_get (zone header.now words.now children.now trees.now cpus.now) cpu order) }
 {
     match get_of(header, words, children, trees, cpus, cpu, order) {
         Getting::Refused(answer) => answer,
@@ -99,7 +101,7 @@ pub fn begin_get(
 // ---- puts
 
 // What the numbers of a put come to: the refusal, or the zone's shape, the CPU and the block.
-#[derive(Drop)]
+#[derive(Clone, Copy)]
 pub enum Putting {
     Refused(Answer),
     Of { shape: Shape, cpu: u8, block: Block },
@@ -108,7 +110,7 @@ pub enum Putting {
 // The put of a frame of the zone, by its order: 5, or the block.
 fn block_of(shape: Shape, cpu: u8, frame: Frame, order: Order) -> Putting
     requires { frame.0 < 2 ^ 25 }
-    ensures* { λ r. ⌜ PutsAt shape cpu frame order r ⌝ }
+    ensures { PutsAt shape cpu frame order result }
 {
     if frame.0 % places::frames_of(order) as u64 != 0 {
         return Putting::Refused(Answer::Misaligned);
@@ -138,7 +140,7 @@ pub fn put_of(
     frame: Frame,
     order: u64,
 ) -> Putting
-    ensures* { λ r. ⌜ Puts (zone header.now words.now children.now trees.now cpus.now) cpu frame order r ⌝ }
+    ensures { Puts (zone header.now words.now children.now trees.now cpus.now) cpu frame order result }
 {
     match calls::check(header, words.len(), children.len(), trees.len(), cpus.len()) {
         Checked::Refused(answer) => Putting::Refused(answer),
@@ -170,7 +172,7 @@ pub fn begin_put(
     frame: Frame,
     order: u64,
 ) -> Answer
-    ensures* { λ r. ⌜ result r (zone header.now words.now children.now trees.now cpus.now) ≡ done (zone header.now words.now children.now trees.now cpus.now) (begin_put (zone header.now words.now children.now trees.now cpus.now) cpu frame order) ⌝ }
+    ensures { result_of result (zone header.now words.now children.now trees.now cpus.now) ≡ done (zone header.now words.now children.now trees.now cpus.now) (begin_put (zone header.now words.now children.now trees.now cpus.now) cpu frame order) }
 {
     match put_of(header, words, children, trees, cpus, cpu, frame, order) {
         Putting::Refused(answer) => answer,

@@ -21,10 +21,10 @@ use Rattle.rules.proofs.Ways.{allowed}
 use Rattle.entries.specs.Sizes.{sized, lengths_of, by_header, zoned_in}
 use Rattle.places.specs.Shapes as Shapes
 use Rattle.calls.specs.Types.{Size, Answer, Zoned, Shape, Checked}
-use Rattle.calls.specs.Results.{zone, result, done, checked_as, checked, Fits}
+use Rattle.calls.specs.Results.{zone, result_of, done, checked_as, checked, Fits}
 
 -- a call that stores nothing leaves the zone as it was
-pub stores_nothing : (z : Zone) {a : Answer} {p : Plan} → p ≡ refuse a → result a z ≡ done z p
+pub stores_nothing : (z : Zone) {a : Answer} {p : Plan} → p ≡ refuse a → result_of a z ≡ done z p
 unfolding stored
 stores_nothing z e = sym (ap (done z) e)
 

@@ -9,7 +9,7 @@ use Rattle.rules.specs.Answers.{number, ends, goes_on, next_of}
 use Rattle.rules.specs.Step.{ran, follow}
 use Rattle.rules.proofs.Histories.{answer_elim}
 use Rattle.calls.specs.Types.{Record, Answer, Next, Way}
-use Rattle.calls.specs.Results.{Result, result, done, next_in, way_by, way_of, went_to}
+use Rattle.calls.specs.Results.{Result, result_of, done, next_in, way_by, way_of, went_to}
 
 -- what the next record tells of the answer
 abbrev pub NextTells : Answer → Next → Type 0
@@ -33,7 +33,7 @@ module _ (f : Zone → Record → Plan) (fuel k : ℕ) (z : Zone) (r : Record) w
   unfolding follow
   run_out h = let e : fuel - k ≡ 0 = omega arith in rw e
 
-  module _ {a : Answer} {z' : Zone} {m : Next} (h : k < fuel) (e : result a z' ≡ done z (f z r)) (n : m ≡ next_in a) where
+  module _ {a : Answer} {z' : Zone} {m : Next} (h : k < fuel) (e : result_of a z' ≡ done z (f z r)) (n : m ≡ next_in a) where
     pub stepped : follow f (fuel - k) k (Answer.UnderWay r) z ≡ follow f (fuel - (k + 1)) (k + 1) a z'
     unfolding follow
     stepped =

@@ -3,10 +3,10 @@ use mathlib.Core.Path.{◌≡◌, sym, ap, ◌∙◌}
 use Rattle.rules.specs.Zone.{Zone}
 use Rattle.rules.specs.Step.{Ran}
 use Rattle.calls.specs.Types.{Answer, Ended}
-use Rattle.calls.specs.Results.{Result, result, ran_to}
+use Rattle.calls.specs.Results.{Result, result_of, ran_to}
 
 -- two results that a call's contract permits are equal: the answers and the tables
-pub same_result : (o : Result) (a b : Answer) (z y : Zone) → result a z ≡ o → result b y ≡ o → (a ≡ b) × (z ≡ y)
+pub same_result : (o : Result) (a b : Answer) (z y : Zone) → result_of a z ≡ o → result_of b y ≡ o → (a ≡ b) × (z ≡ y)
 same_result o a b z y p q = (ap (λ (x : Result). x.answer) (p ∙ sym q), ap (λ (x : Result). x.zone) (p ∙ sym q))
 
 -- two ends that a run's contract permits are equal: the answers and the steps, and the tables

@@ -15,12 +15,12 @@ pub record Result : Type 0 where
   pub answer : Answer
   pub zone : Zone
 
-abbrev pub result : Answer → Zone → Result
-result a z = record { answer = a; zone = z }
+abbrev pub result_of : Answer → Zone → Result
+result_of a z = record { answer = a; zone = z }
 
 -- the plan of a call, carried out
 abbrev pub done : Zone → Plan → Result
-done z p = result p.answer (after z p)
+done z p = result_of p.answer (after z p)
 
 -- a run of steps: its answer, the steps made, and the tables after the last of them
 abbrev pub ran_to : Ended → Zone → Ran

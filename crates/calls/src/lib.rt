@@ -1,4 +1,6 @@
 // What every call on an open zone begins with, the answers that go on with a stage, and what a run goes by.
+#![tactic(auto)]
+
 ghost use Rattle.std.specs.Prelude.{◌≡◌, max};
 ghost use Rattle.calls.specs.Results.{checked, next_in, way_of};
 
@@ -7,7 +9,7 @@ use places::Shape;
 use rules::{Answer, Giving, Record, Taking};
 
 // An open zone, or the refusal.
-#[derive(Drop)]
+#[derive(Clone, Copy)]
 pub enum Checked {
     Zone(Shape),
     Refused(Answer),
@@ -52,7 +54,7 @@ pub fn put(cpu: u8, stage: Giving) -> Answer
 // ---- runs
 
 // A run's last answer, and the steps that it made.
-#[derive(Drop)]
+#[derive(Clone, Copy)]
 pub struct Ended {
     pub answer: Answer,
     pub steps: u64,
@@ -69,7 +71,7 @@ pub fn at_least_one(fuel: u64) -> u64
 }
 
 // The record that an answer goes on with.
-#[derive(Drop)]
+#[derive(Clone, Copy)]
 pub enum Next {
     GoesOn(Record),
     Ends,
@@ -98,7 +100,7 @@ pub fn next_of(answer: Answer) -> Next
 }
 
 // How a run goes on: it has ended, or it goes on with a record after so many steps.
-#[derive(Drop)]
+#[derive(Clone, Copy)]
 pub enum Way {
     Ends(Ended),
     Goes { rec: Record, steps: u64 },

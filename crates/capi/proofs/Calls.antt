@@ -25,7 +25,7 @@ use Rattle.rules.proofs.Ways.{allowed}
 use Rattle.entries.specs.Sizes.{by_header, zoned_in}
 use Rattle.entries.specs.declared.Zoned.{Zoned}
 use Rattle.calls.specs.declared.Next.{Next}
-use Rattle.calls.specs.Results.{zone, Result, result, done, next_in}
+use Rattle.calls.specs.Results.{zone, Result, result_of, done, next_in}
 use Rattle.calls.proofs.Opened.{zoned_by}
 use Rattle.calls.proofs.Runs.{NextTells, next_tells}
 use Rattle.records.specs.Encoding.{fields_of, encode}
@@ -76,7 +76,7 @@ module _ (e : Answer) (z : Zone) (l : List ℕ) where
   unfolding made
   made_not p n q t = ap (λ v. called v z l) (t ∙ ap answered_as q) ∙ sym (pick_no _ _ _ (ne_eqb _ _ n))
 
-  pub made_so : (p : Plan) {a : Answer} {z' : Zone} {l' : List ℕ} {s : Answered} → length l ≡ 2 → result a z' ≡ done z p → l' ≡ handed_back a l → s ≡ answered_as a → called s z' l' ≡ made e z l p
+  pub made_so : (p : Plan) {a : Answer} {z' : Zone} {l' : List ℕ} {s : Answered} → length l ≡ 2 → result_of a z' ≡ done z p → l' ≡ handed_back a l → s ≡ answered_as a → called s z' l' ≡ made e z l p
   unfolding made
   made_so p {a} {z'} n q h t = ap₂ (λ v k. called v z' k) t h ∙ ap (λ (o : Result). called (answered_as o.answer) o.zone (handed_back o.answer l)) q ∙ sym (pick_yes _ _ _ (eq-eqb _ _ n))
 
@@ -98,11 +98,11 @@ pub lent : (f : Zone → Record → Plan) (n : ℕ) (z : Zone) {r s : Record} �
 lent f n z e = ap (λ r. rules.follow f n 0 (Answer.UnderWay r) z) e
 
 -- the step of the record that is lent
-pub lent_step : (f : Zone → Record → Plan) (z : Zone) {a : Answer} {z' : Zone} {r s : Record} → r ≡ s → result a z' ≡ done z (f z r) → result a z' ≡ done z (f z s)
+pub lent_step : (f : Zone → Record → Plan) (z : Zone) {a : Answer} {z' : Zone} {r s : Record} → r ≡ s → result_of a z' ≡ done z (f z r) → result_of a z' ≡ done z (f z s)
 lent_step f z e q = q ∙ ap (λ x. done z (f z x)) e
 
 -- a call without a record
-pub made_alone_lem : (z : Zone) (p : Plan) {a : Answer} {z' : Zone} {s : Answered} → result a z' ≡ done z p → s ≡ answered_as a → called s z' [] ≡ made_alone z p
+pub made_alone_lem : (z : Zone) (p : Plan) {a : Answer} {z' : Zone} {s : Answered} → result_of a z' ≡ done z p → s ≡ answered_as a → called s z' [] ≡ made_alone z p
 made_alone_lem z p {a} {z'} q t = ap (λ v. called v z' []) t ∙ ap (λ (o : Result). called (answered_as o.answer) o.zone []) q
 
 -- number, frame and steps, with the record

@@ -1,6 +1,8 @@
 // The calls as C makes them: tables and record lent as slices, numbers bare, an answer by its number and frame. A record is two words. A call that
 // goes on reads them; every call that is lent them writes them: the next record after 1, the finished one after any other answer. A record slice of another
 // length is answered 8 where a table's would be, and left as it is.
+#![tactic(auto)]
+
 ghost use Rattle.std.specs.Prelude.{◌≡◌, not, [], ◌-◌, ◌*◌, length};
 ghost use Rattle.laws.specs.Tests.{passes};
 ghost use Rattle.laws.specs.Tables.{outcome};
@@ -24,14 +26,14 @@ const CHILD_WORDS: u64 = 8;
 const TREE_CHILDREN: u64 = 32;
 
 #[repr(C)]
-#[derive(Drop)]
+#[derive(Clone, Copy)]
 pub struct Answered {
     pub number: u64,
     pub frame: u64,
 }
 
 #[repr(C)]
-#[derive(Drop)]
+#[derive(Clone, Copy)]
 pub struct Ran {
     pub number: u64,
     pub frame: u64,
@@ -157,7 +159,7 @@ fn told_steps(
 }
 
 // What is answered to a record slice of another length: what comes before 8, or 8. A closed zone is answered `closed`.
-fn no_record_lem(header: &[u64], closed: Answer) -> Answer
+fn no_record(header: &[u64], closed: Answer) -> Answer
     ensures { result ≡ no_record closed header.now }
 {
     match entries::zone_says(header) {
@@ -194,7 +196,7 @@ pub extern "C" fn lovarntek_get(
     ensures { called result (zone header.now words.now children.now trees.now cpus.now) rec.new ≡ get_call (zone header.now words.now children.now trees.now cpus.now) rec.old cpu order }
 {
     if rec.len() != RECORD {
-        return told(no_record_lem(header, Answer::Closed));
+        return told(no_record(header, Answer::Closed));
     }
     let answer = begins::begin_get(header, words, children, trees, cpus, cpu, order);
     hand_back(rec, answer);
@@ -216,7 +218,7 @@ pub extern "C" fn lovarntek_put(
     ensures { called result (zone header.now words.now children.now trees.now cpus.now) rec.new ≡ put_call (zone header.now words.now children.now trees.now cpus.now) rec.old cpu first order }
 {
     if rec.len() != RECORD {
-        return told(no_record_lem(header, Answer::Closed));
+        return told(no_record(header, Answer::Closed));
     }
     let answer = begins::begin_put(
         header,
@@ -244,7 +246,7 @@ pub extern "C" fn lovarntek_step(
     ensures { called result (zone header.now words.new children.new trees.new cpus.new) rec.new ≡ step_call (zone header.now words.old children.old trees.old cpus.old) rec.old }
 {
     if rec.len() != RECORD {
-        return told(no_record_lem(header, Answer::Closed));
+        return told(no_record(header, Answer::Closed));
     }
     let given = records::decode(rec[0], rec[1]);
     let answer = upper::step(header, words, children, trees, cpus, given);
@@ -265,7 +267,7 @@ pub extern "C" fn lovarntek_run(
     ensures { called result (zone header.now words.new children.new trees.new cpus.new) rec.new ≡ run_call (zone header.now words.old children.old trees.old cpus.old) rec.old fuel }
 {
     if rec.len() != RECORD {
-        return told_run(rec, no_record_lem(header, Answer::Closed), 0);
+        return told_run(rec, no_record(header, Answer::Closed), 0);
     }
     let given = records::decode(rec[0], rec[1]);
     let ended = runs::run(header, words, children, trees, cpus, given, fuel);
@@ -288,7 +290,7 @@ pub extern "C" fn lovarntek_get_run(
     ensures { called result (zone header.now words.new children.new trees.new cpus.new) rec.new ≡ get_run_call (zone header.now words.old children.old trees.old cpus.old) rec.old cpu order fuel }
 {
     if rec.len() != RECORD {
-        return told_run(rec, no_record_lem(header, Answer::Closed), 0);
+        return told_run(rec, no_record(header, Answer::Closed), 0);
     }
     match get_runs::get_run(header, words, children, trees, cpus, cpu, order, fuel) {
         Way::Ends(ended) => {
@@ -317,7 +319,7 @@ pub extern "C" fn lovarntek_put_run(
     ensures { called result (zone header.now words.new children.new trees.new cpus.new) rec.new ≡ put_run_call (zone header.now words.old children.old trees.old cpus.old) rec.old cpu first order fuel }
 {
     if rec.len() != RECORD {
-        return told_run(rec, no_record_lem(header, Answer::Closed), 0);
+        return told_run(rec, no_record(header, Answer::Closed), 0);
     }
     match put_runs::put_run(
         header,
@@ -419,7 +421,7 @@ pub extern "C" fn lovarntek_open(
     ensures { called result (zone header.new words.now children.now trees.now cpus.now) rec.new ≡ open_call (zone header.old words.now children.now trees.now cpus.now) rec.old }
 {
     if rec.len() != RECORD {
-        return told(no_record_lem(header, Answer::BadBuffers));
+        return told(no_record(header, Answer::BadBuffers));
     }
     let answer = opening::open(header, words, children, trees, cpus);
     hand_back(rec, answer);
@@ -438,7 +440,7 @@ pub extern "C" fn lovarntek_open_step(
     ensures { called result (zone header.now words.now children.new trees.new cpus.new) rec.new ≡ open_step_call (zone header.now words.now children.old trees.old cpus.old) rec.old }
 {
     if rec.len() != RECORD {
-        return told(no_record_lem(header, Answer::Closed));
+        return told(no_record(header, Answer::Closed));
     }
     let given = records::decode(rec[0], rec[1]);
     let answer = opening::open_step(header, words, children, trees, cpus, given);
@@ -459,7 +461,7 @@ pub extern "C" fn lovarntek_open_run(
     ensures { called result (zone header.now words.now children.new trees.new cpus.new) rec.new ≡ open_run_call (zone header.now words.now children.old trees.old cpus.old) rec.old fuel }
 {
     if rec.len() != RECORD {
-        return told_run(rec, no_record_lem(header, Answer::Closed), 0);
+        return told_run(rec, no_record(header, Answer::Closed), 0);
     }
     let given = records::decode(rec[0], rec[1]);
     let ended = opening::run(header, words, children, trees, cpus, given, fuel);

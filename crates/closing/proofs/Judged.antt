@@ -18,7 +18,7 @@ use Rattle.entries.specs.Sizes.{huge_of}
 use Rattle.entries.specs.Steps.{stored_in}
 use Rattle.entries.proofs.Turns.{stored_in_lem}
 use Rattle.places.specs.Shapes as Shapes
-use Rattle.calls.specs.Results.{zone, result, done, checked_as, Fits}
+use Rattle.calls.specs.Results.{zone, result_of, done, checked_as, Fits}
 use Rattle.calls.proofs.Opened.{stores_nothing, stands, passed_by, checked_in, checked_refused, checked_open, one_entry}
 use Rattle.closing.specs.Types.{Answer, Stored, Shape, Checked, Verdict}
 use Rattle.closing.specs.Verdicts.{sound_in, verdict_as, verdict_in, closed_as}
@@ -91,16 +91,16 @@ module _ (h w c t p : List ℕ) where
     pub told_settled : {s : Shape} → v ≡ Verdict.Settled s → Create.done ≡ (close_zone z).answer
     told_settled q = sym (ap (λ (x : Plan). x.answer) (judges e q).1)
 
-    pub close_refused : {a : Answer} → v ≡ Verdict.Refused a → result a z ≡ done z (close_zone z)
+    pub close_refused : {a : Answer} → v ≡ Verdict.Refused a → result_of a z ≡ done z (close_zone z)
     close_refused q = stores_nothing z (judges e q)
 
     -- the header's store, whatever it said
-    pub close_stored : {s : Shape} → v ≡ Verdict.Settled s → {x y : Stored} {h' : List ℕ} → outcome x h' ≡ stored_in 0 (header_word clean (huge_of s.size)) h → x ≡ y → result (closed_as y) (zone h' w c t p) ≡ done z (close_zone z)
+    pub close_stored : {s : Shape} → v ≡ Verdict.Settled s → {x y : Stored} {h' : List ℕ} → outcome x h' ≡ stored_in 0 (header_word clean (huge_of s.size)) h → x ≡ y → result_of (closed_as y) (zone h' w c t p) ≡ done z (close_zone z)
     unfolding stored
     close_stored {s} q {x} {y} {h'} o r =
         let k = judges e q in
-        ap (λ i. result (closed_as i) (zone h' w c t p)) (sym r)
-        ∙ (ap (λ i. result (closed_as i.said) (zone i.table w c t p)) (o ∙ sym (stored_in_lem 0 (header_word clean (huge_of s.size)) h (omega (arith, k.0)) refl))
+        ap (λ i. result_of (closed_as i) (zone h' w c t p)) (sym r)
+        ∙ (ap (λ i. result_of (closed_as i.said) (zone i.table w c t p)) (o ∙ sym (stored_in_lem 0 (header_word clean (huge_of s.size)) h (omega (arith, k.0)) refl))
         ∙ sym (ap (done z) k.1))
 
   -- ---- as the code finds them

@@ -1,8 +1,10 @@
 // "This zone is settled", and close. Both look at every entry; words and children by the lower level alone.
+#![tactic(auto)]
+
 ghost use Rattle.std.specs.Prelude.{◌≡◌, []};
 ghost use Rattle.rules.specs.Open.{settled, close_zone};
 ghost use Rattle.places.specs.Shapes.{shape_of};
-ghost use Rattle.calls.specs.Results.{zone, result, done, Fits};
+ghost use Rattle.calls.specs.Results.{zone, result_of, done, Fits};
 ghost use Rattle.closing.specs.Verdicts.{sound_in, verdict_in};
 
 use calls::Checked;
@@ -13,7 +15,7 @@ use rules::{Answer, Frame};
 // No malformed child, no child with a set over a field that isn't all zero, no malformed tree or CPU entry.
 fn sound(words: &[u64], children: &[u16], trees: &[u16], cpus: &[u64], shape: Shape) -> bool
     requires { Fits shape words.now children.now trees.now cpus.now }
-    ensures* { λ r. ⌜ r ≡ sound_in (shape_of shape) (zone [] words.now children.now trees.now cpus.now) ⌝ }
+    ensures { result ≡ sound_in (shape_of shape) (zone [] words.now children.now trees.now cpus.now) }
 {
     if !looks::children_formed(children) {
         return false;
@@ -30,7 +32,7 @@ fn sound(words: &[u64], children: &[u16], trees: &[u16], cpus: &[u64], shape: Sh
 // Every child with a clear counts its zero bits, and every tree's count plus the CPU counts that hold it equals its children's sum.
 fn all_settled(words: &[u64], children: &[u16], trees: &[u16], cpus: &[u64], shape: Shape) -> bool
     requires { Fits shape words.now children.now trees.now cpus.now }
-    ensures* { λ r. ⌜ r ≡ settled (shape_of shape) (zone [] words.now children.now trees.now cpus.now) ⌝ }
+    ensures { result ≡ settled (shape_of shape) (zone [] words.now children.now trees.now cpus.now) }
 {
     if !looks::children_settled(children, words) {
         return false;
@@ -39,14 +41,14 @@ fn all_settled(words: &[u64], children: &[u16], trees: &[u16], cpus: &[u64], sha
 }
 
 // A settled zone, or the refusal.
-#[derive(Drop)]
+#[derive(Clone, Copy)]
 enum Verdict {
     Settled(Shape),
     Refused(Answer),
 }
 
 fn judge(header: &[u64], words: &[u64], children: &[u16], trees: &[u16], cpus: &[u64]) -> Verdict
-    ensures* { λ r. ⌜ r ≡ verdict_in header.now words.now children.now trees.now cpus.now ⌝ }
+    ensures { result ≡ verdict_in header.now words.now children.now trees.now cpus.now }
 {
     match calls::check(header, words.len(), children.len(), trees.len(), cpus.len()) {
         Checked::Refused(answer) => Verdict::Refused(answer),
@@ -70,7 +72,7 @@ pub fn settled(
     trees: &[u16],
     cpus: &[u64],
 ) -> Answer
-    ensures* { λ r. ⌜ r ≡ (close_zone (zone header.now words.now children.now trees.now cpus.now)).answer ⌝ }
+    ensures { result ≡ (close_zone (zone header.now words.now children.now trees.now cpus.now)).answer }
 {
     match judge(header, words, children, trees, cpus) {
         Verdict::Refused(answer) => answer,
@@ -86,7 +88,7 @@ pub fn close(
     trees: &[u16],
     cpus: &[u64],
 ) -> Answer
-    ensures* { λ r. ⌜ result r (zone header.new words.now children.now trees.now cpus.now) ≡ done (zone header.old words.now children.now trees.now cpus.now) (close_zone (zone header.old words.now children.now trees.now cpus.now)) ⌝ }
+    ensures { result_of result (zone header.new words.now children.now trees.now cpus.now) ≡ done (zone header.old words.now children.now trees.now cpus.now) (close_zone (zone header.old words.now children.now trees.now cpus.now)) }
 {
     match judge(header, words, children, trees, cpus) {
         Verdict::Refused(answer) => answer,

@@ -1,5 +1,7 @@
 // A CPU's entry. Each function reads one entry and stores one at most.
 // A function takes a slice of any length and any numbers. What is wrong it answers, and then it stores nothing.
+#![tactic(auto)]
+
 ghost use Rattle.std.specs.Prelude.{◌≡◌, [], ◌∷◌, ◌^◌, ◌<◌};
 ghost use Rattle.laws.specs.Tables.{outcome};
 ghost use Rattle.laws.specs.Fields.{join};
@@ -14,7 +16,7 @@ use rules::{CpuEntry, Tree};
 
 // ---- a CPU's entry: present (1), tree (11), start child (5), count (15), zero (32); an absent entry is the zero word
 
-#[derive(Drop)]
+#[derive(Clone, Copy)]
 struct CpuFields {
     present: u64,
     tree: u16,
@@ -70,7 +72,7 @@ fn cpu_says(size: Size, word: u64) -> CpuEntry
 }
 
 // Rule 1: what the own entry gives.
-#[derive(Drop)]
+#[derive(Clone, Copy)]
 pub enum Claimed {
     Absent,
     Claimed { tree: Tree, start: u8 },
@@ -80,7 +82,7 @@ pub enum Claimed {
 }
 
 // An entry that holds a tree is changed; one that does not is left alone.
-#[derive(Drop)]
+#[derive(Clone, Copy)]
 pub enum Held {
     Held,
     Missed,
@@ -88,7 +90,7 @@ pub enum Held {
     NoCpu,
 }
 
-#[derive(Drop)]
+#[derive(Clone, Copy)]
 pub enum Again {
     Claimed(u8),
     Released(u16),
@@ -97,7 +99,7 @@ pub enum Again {
     NoCpu,
 }
 
-#[derive(Drop)]
+#[derive(Clone, Copy)]
 pub enum Released {
     Count(u16),
     Missed,
@@ -105,14 +107,14 @@ pub enum Released {
     NoCpu,
 }
 
-#[derive(Drop)]
+#[derive(Clone, Copy)]
 pub enum Written {
     Written,
     Damaged,
     NoCpu,
 }
 
-#[derive(Drop)]
+#[derive(Clone, Copy)]
 pub enum Stolen {
     Absent,
     Entry { tree: Tree, count: u16 },
@@ -120,7 +122,7 @@ pub enum Stolen {
     NoCpu,
 }
 
-#[derive(Drop)]
+#[derive(Clone, Copy)]
 pub enum CpuLook {
     Entry(CpuEntry),
     NoCpu,

@@ -26,7 +26,7 @@ use Rattle.entries.specs.Sizes as Sizes
 use Rattle.entries.specs.Steps.{store_count_in, stored_in}
 use Rattle.places.specs.Shapes.{shape_of}
 use Rattle.places.proofs.Ranges.{trees_same}
-use Rattle.calls.specs.Results.{zone, Result, result, done, Fits}
+use Rattle.calls.specs.Results.{zone, Result, result_of, done, Fits}
 use Rattle.calls.proofs.Stored.{entry_stored, count_stored, said_same, stored_said, added_said, added_sound, next_entry, next_table}
 use Rattle.creating.specs.Types.{Answer, Creating, Shape}
 
@@ -48,11 +48,11 @@ lowered_said e q = let d = said_same e in let n : ◌≡◌ {A = ℕ} 0 1 = cc i
 
 module _ (s : Shape) (i : ℕ) (l m : List ℕ) (h : i < length l) {x : Lowered} (o : outcome x m ≡ fresh_word_in l i) where
   abbrev Words : Answer → Type 0
-  Words r = result r (zone [] m [] [] []) ≡ done (zone [] l [] [] []) (create_stage (shape_of s) (Creating.Words i))
+  Words r = result_of r (zone [] m [] [] []) ≡ done (zone [] l [] [] []) (create_stage (shape_of s) (Creating.Words i))
 
   word_made : {r : Answer} → r ≡ (create_stage (shape_of s) (Creating.Words i)).answer → Words r
   unfolding create_stage stored
-  word_made {r} q = ap (λ (v : Outcome Lowered). result r (zone [] v.table [] [] [])) (o ∙ word_stored i l h) ∙ ap (λ a. result a (zone [] (set l i fresh_word) [] [] [])) q
+  word_made {r} q = ap (λ (v : Outcome Lowered). result_of r (zone [] v.table [] [] [])) (o ∙ word_stored i l h) ∙ ap (λ a. result_of a (zone [] (set l i fresh_word) [] [] [])) q
 
   pub word_none : {r : Answer} → x ≡ Lowered.NoEntry → Words r
   word_none q = lowered_said (o ∙ word_stored i l h) q
@@ -68,11 +68,11 @@ module _ (s : Shape) (i : ℕ) (l m : List ℕ) (h : i < length l) {x : Lowered}
 
 module _ (s : Shape) (i : Huge) (l m : List ℕ) (h : i.0 < length l) {x : Lowered} (o : outcome x m ≡ fresh_child_in l i.0) where
   abbrev Children : Answer → Type 0
-  Children r = result r (zone [] [] m [] []) ≡ done (zone [] [] l [] []) (create_stage (shape_of s) (Creating.Children i))
+  Children r = result_of r (zone [] [] m [] []) ≡ done (zone [] [] l [] []) (create_stage (shape_of s) (Creating.Children i))
 
   child_made : {r : Answer} → r ≡ (create_stage (shape_of s) (Creating.Children i)).answer → Children r
   unfolding create_stage stored
-  child_made {r} q = ap (λ (v : Outcome Lowered). result r (zone [] [] v.table [] [])) (o ∙ child_stored i.0 l h) ∙ ap (λ a. result a (zone [] [] (set l i.0 fresh_child) [] [])) q
+  child_made {r} q = ap (λ (v : Outcome Lowered). result_of r (zone [] [] v.table [] [])) (o ∙ child_stored i.0 l h) ∙ ap (λ a. result_of a (zone [] [] (set l i.0 fresh_child) [] [])) q
 
   pub child_none : {r : Answer} → x ≡ Lowered.NoEntry → Children r
   child_none q = lowered_said (o ∙ child_stored i.0 l h) q
@@ -88,14 +88,14 @@ module _ (s : Shape) (i : Huge) (l m : List ℕ) (h : i.0 < length l) {x : Lower
 
 module _ (s : Shape) (t : Tree) (l m : List ℕ) (h : t.0 < length l) {x : Added} {k : ℕ} (d : k ≡ capacity (Sizes.shape_of s.size) t.0) (o : outcome x m ≡ store_count_in s.size t k l) where
   abbrev Trees : Answer → Type 0
-  Trees r = result r (zone [] [] [] m []) ≡ done (zone [] [] [] l []) (create_stage (shape_of s) (Creating.Trees t))
+  Trees r = result_of r (zone [] [] [] m []) ≡ done (zone [] [] [] l []) (create_stage (shape_of s) (Creating.Trees t))
 
   tree_stored : outcome x m ≡ outcome Added.Added (set l t.0 (tree_word 0 (capacity (Sizes.shape_of s.size) t.0)))
   tree_stored = (rw d at o) ∙ count_stored s.size t l h (capacity (Sizes.shape_of s.size) t.0) (omega arith)
 
   tree_made : {r : Answer} → r ≡ (create_stage (shape_of s) (Creating.Trees t)).answer → Trees r
   unfolding create_stage stored children_of
-  tree_made {r} q = ap (λ (v : Outcome Added). result r (zone [] [] [] v.table [])) tree_stored ∙ ap (λ a. result a (zone [] [] [] (set l t.0 (tree_word 0 (capacity (shape_of s) t.0))) [])) q
+  tree_made {r} q = ap (λ (v : Outcome Added). result_of r (zone [] [] [] v.table [])) tree_stored ∙ ap (λ a. result_of a (zone [] [] [] (set l t.0 (tree_word 0 (capacity (shape_of s) t.0))) [])) q
 
   pub tree_none : {r : Answer} → x ≡ Added.NoTree → Trees r
   tree_none q = added_said tree_stored q
@@ -114,11 +114,11 @@ module _ (s : Shape) (t : Tree) (l m : List ℕ) (h : t.0 < length l) {x : Added
 
 module _ (s : Shape) (j : ℕ) (l m : List ℕ) (h : j < length l) {x : Stored} (o : outcome x m ≡ stored_in j 0 l) where
   abbrev Cpus : Answer → Type 0
-  Cpus r = result r (zone [] [] [] [] m) ≡ done (zone [] [] [] [] l) (create_stage (shape_of s) (Creating.Cpus j))
+  Cpus r = result_of r (zone [] [] [] [] m) ≡ done (zone [] [] [] [] l) (create_stage (shape_of s) (Creating.Cpus j))
 
   cpu_made : {r : Answer} → r ≡ (create_stage (shape_of s) (Creating.Cpus j)).answer → Cpus r
   unfolding create_stage stored cpu_word
-  cpu_made {r} q = ap (λ (v : Outcome Stored). result r (zone [] [] [] [] v.table)) (o ∙ entry_stored j l h 0) ∙ ap (λ a. result a (zone [] [] [] [] (set l j 0))) q
+  cpu_made {r} q = ap (λ (v : Outcome Stored). result_of r (zone [] [] [] [] v.table)) (o ∙ entry_stored j l h 0) ∙ ap (λ a. result_of a (zone [] [] [] [] (set l j 0))) q
 
   pub cpu_none : {r : Answer} → x ≡ Stored.NoEntry → Cpus r
   cpu_none q = stored_said (o ∙ entry_stored j l h 0) q
@@ -133,14 +133,14 @@ module _ (s : Shape) (j : ℕ) (l m : List ℕ) (h : j < length l) {x : Stored} 
 
 module _ (s : Shape) (l m : List ℕ) (h : length l ≡ 1) {x : Stored} (o : outcome x m ≡ stored_in 0 (header_word running (Sizes.huge_of s.size)) l) where
   abbrev Born : Answer → Type 0
-  Born r = result r (zone m [] [] [] []) ≡ done (zone l [] [] [] []) (create_stage (shape_of s) Creating.Header)
+  Born r = result_of r (zone m [] [] [] []) ≡ done (zone l [] [] [] []) (create_stage (shape_of s) Creating.Header)
 
   header_stored : outcome x m ≡ outcome Stored.Stored (set l 0 (header_word running (Sizes.huge_of s.size)))
   header_stored = o ∙ entry_stored 0 l (omega (arith, h)) _
 
   pub header_made : Born (Answer.Done (frame 0))
   unfolding create_stage stored
-  header_made = ap (λ (v : Outcome Stored). result (Answer.Done (frame 0)) (zone v.table [] [] [] [])) header_stored
+  header_made = ap (λ (v : Outcome Stored). result_of (Answer.Done (frame 0)) (zone v.table [] [] [] [])) header_stored
 
   pub header_none : {r : Answer} → x ≡ Stored.NoEntry → Born r
   header_none q = stored_said header_stored q
@@ -165,22 +165,22 @@ module _ {s : Shape} {ws cs ts ps : List ℕ} (fit : Fits s ws cs ts ps) (stage 
 
 -- ---- the other tables stand aside: a stage stores in its own
 module _ (h w c t p : List ℕ) (s : Shape) {stage : Creating} {r : Answer} {m : List ℕ} where
-  pub words_aside : {i : ℕ} → stage ≡ Creating.Words i → result r (zone [] m [] [] []) ≡ done (zone [] w [] [] []) (create_stage (shape_of s) (Creating.Words i)) → result r (zone h m c t p) ≡ done (zone h w c t p) (create_stage (shape_of s) stage)
+  pub words_aside : {i : ℕ} → stage ≡ Creating.Words i → result_of r (zone [] m [] [] []) ≡ done (zone [] w [] [] []) (create_stage (shape_of s) (Creating.Words i)) → result_of r (zone h m c t p) ≡ done (zone h w c t p) (create_stage (shape_of s) stage)
   unfolding create_stage stored
-  words_aside e o = rw e (ap (λ (x : Result). result x.answer (zone h x.zone.words c t p)) o)
+  words_aside e o = rw e (ap (λ (x : Result). result_of x.answer (zone h x.zone.words c t p)) o)
 
-  pub children_aside : {i : Huge} → stage ≡ Creating.Children i → result r (zone [] [] m [] []) ≡ done (zone [] [] c [] []) (create_stage (shape_of s) (Creating.Children i)) → result r (zone h w m t p) ≡ done (zone h w c t p) (create_stage (shape_of s) stage)
+  pub children_aside : {i : Huge} → stage ≡ Creating.Children i → result_of r (zone [] [] m [] []) ≡ done (zone [] [] c [] []) (create_stage (shape_of s) (Creating.Children i)) → result_of r (zone h w m t p) ≡ done (zone h w c t p) (create_stage (shape_of s) stage)
   unfolding create_stage stored
-  children_aside e o = rw e (ap (λ (x : Result). result x.answer (zone h w x.zone.children t p)) o)
+  children_aside e o = rw e (ap (λ (x : Result). result_of x.answer (zone h w x.zone.children t p)) o)
 
-  pub trees_aside : {i : Tree} → stage ≡ Creating.Trees i → result r (zone [] [] [] m []) ≡ done (zone [] [] [] t []) (create_stage (shape_of s) (Creating.Trees i)) → result r (zone h w c m p) ≡ done (zone h w c t p) (create_stage (shape_of s) stage)
+  pub trees_aside : {i : Tree} → stage ≡ Creating.Trees i → result_of r (zone [] [] [] m []) ≡ done (zone [] [] [] t []) (create_stage (shape_of s) (Creating.Trees i)) → result_of r (zone h w c m p) ≡ done (zone h w c t p) (create_stage (shape_of s) stage)
   unfolding create_stage stored
-  trees_aside e o = rw e (ap (λ (x : Result). result x.answer (zone h w c x.zone.trees p)) o)
+  trees_aside e o = rw e (ap (λ (x : Result). result_of x.answer (zone h w c x.zone.trees p)) o)
 
-  pub cpus_aside : {j : ℕ} → stage ≡ Creating.Cpus j → result r (zone [] [] [] [] m) ≡ done (zone [] [] [] [] p) (create_stage (shape_of s) (Creating.Cpus j)) → result r (zone h w c t m) ≡ done (zone h w c t p) (create_stage (shape_of s) stage)
+  pub cpus_aside : {j : ℕ} → stage ≡ Creating.Cpus j → result_of r (zone [] [] [] [] m) ≡ done (zone [] [] [] [] p) (create_stage (shape_of s) (Creating.Cpus j)) → result_of r (zone h w c t m) ≡ done (zone h w c t p) (create_stage (shape_of s) stage)
   unfolding create_stage stored
-  cpus_aside e o = rw e (ap (λ (x : Result). result x.answer (zone h w c t x.zone.cpus)) o)
+  cpus_aside e o = rw e (ap (λ (x : Result). result_of x.answer (zone h w c t x.zone.cpus)) o)
 
-  pub header_aside : stage ≡ Creating.Header → result r (zone m [] [] [] []) ≡ done (zone h [] [] [] []) (create_stage (shape_of s) Creating.Header) → result r (zone m w c t p) ≡ done (zone h w c t p) (create_stage (shape_of s) stage)
+  pub header_aside : stage ≡ Creating.Header → result_of r (zone m [] [] [] []) ≡ done (zone h [] [] [] []) (create_stage (shape_of s) Creating.Header) → result_of r (zone m w c t p) ≡ done (zone h w c t p) (create_stage (shape_of s) stage)
   unfolding create_stage stored
-  header_aside e o = rw e (ap (λ (x : Result). result x.answer (zone x.zone.header w c t p)) o)
+  header_aside e o = rw e (ap (λ (x : Result). result_of x.answer (zone x.zone.header w c t p)) o)

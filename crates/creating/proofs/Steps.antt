@@ -18,7 +18,7 @@ use Rattle.rules.proofs.Ways.{allowed}
 use Rattle.entries.specs.declared.Stored.{Stored}
 use Rattle.entries.specs.Steps.{stored_in}
 use Rattle.places.specs.Shapes.{shape_of}
-use Rattle.calls.specs.Results.{zone, result, done, Fits}
+use Rattle.calls.specs.Results.{zone, result_of, done, Fits}
 use Rattle.calls.proofs.Opened.{stores_nothing, stands, passed_by}
 use Rattle.calls.proofs.Stored.{entry_stored, stored_said}
 use Rattle.creating.specs.Types.{Answer, Creating, Record, Shape, Checked}
@@ -38,7 +38,7 @@ module _ (n : ℕ) (h w c t p : List ℕ) where
   abbrev begun : Plan
   begun = says (Store.header 0) (creating (Creating.Words 0))
 
-  pub create_refused : {a : Answer} → creatable_by n h w c t p ≡ Checked.Refused a → result a z ≡ done z (create_zone n z)
+  pub create_refused : {a : Answer} → creatable_by n h w c t p ≡ Checked.Refused a → result_of a z ≡ done z (create_zone n z)
   unfolding create_zone
   create_refused e = stores_nothing z (creatable_refused n h w c t p e [] begun)
 
@@ -46,16 +46,16 @@ module _ (n : ℕ) (h w c t p : List ℕ) where
     unborn : outcome x m ≡ outcome Stored.Stored (set h 0 0)
     unborn = o ∙ entry_stored 0 h (omega (arith, (creatable_ready n (length h) w c t p e).0)) 0
 
-    pub create_none : {r : Answer} → x ≡ Stored.NoEntry → result r (zone m w c t p) ≡ done z (create_zone n z)
+    pub create_none : {r : Answer} → x ≡ Stored.NoEntry → result_of r (zone m w c t p) ≡ done z (create_zone n z)
     create_none q = stored_said unborn q
 
-    pub create_begun : {r : Answer} → r ≡ creating (Creating.Words 0) → result r (zone m w c t p) ≡ done z (create_zone n z)
+    pub create_begun : {r : Answer} → r ≡ creating (Creating.Words 0) → result_of r (zone m w c t p) ≡ done z (create_zone n z)
     unfolding create_zone guarded stored
-    create_begun {r} q = ap (λ (v : Outcome Stored). result r (zone v.table w c t p)) unborn ∙ (ap (λ a. result a (zone (set h 0 0) w c t p)) q ∙ sym (ap (done z) ((creatable_zone n h w c t p e).1 [] begun)))
+    create_begun {r} q = ap (λ (v : Outcome Stored). result_of r (zone v.table w c t p)) unborn ∙ (ap (λ a. result_of a (zone (set h 0 0) w c t p)) q ∙ sym (ap (done z) ((creatable_zone n h w c t p e).1 [] begun)))
 
   -- ---- a later step
   module _ (r : Record) where
-    pub step_refused : {a : Answer} → creatable_by n h w c t p ≡ Checked.Refused a → result a z ≡ done z (create_step n z r)
+    pub step_refused : {a : Answer} → creatable_by n h w c t p ≡ Checked.Refused a → result_of a z ≡ done z (create_step n z r)
     unfolding create_step
     step_refused e = stores_nothing z (creatable_refused n h w c t p e (unless (create_range (shaped n z) r) Answer.BadRecord ∷ []) (create_act (shaped n z) r))
 
@@ -71,9 +71,9 @@ module _ (n : ℕ) (h w c t p : List ℕ) where
           ∙ (ap (λ (i : Rules). guarded (unless (create_range i r) Answer.BadRecord ∷ []) (create_act i r)) k.0
           ∙ ap (λ (y : Record). guarded (unless (create_range g y) Answer.BadRecord ∷ []) (create_act g y)) q)
 
-      pub step_out : passes (create_range g x) ≡ false → result Answer.BadRecord z ≡ done z (create_step n z r)
+      pub step_out : passes (create_range g x) ≡ false → result_of Answer.BadRecord z ≡ done z (create_step n z r)
       step_out b = stores_nothing z (step_open ∙ stands (unless (create_range g x) Answer.BadRecord) [] (create_act g x) (ap not b))
 
-      pub step_acts : Passes (create_range g x) → {a : Answer} {z' : Zone} → result a z' ≡ done z (create_act g x) → result a z' ≡ done z (create_step n z r)
+      pub step_acts : Passes (create_range g x) → {a : Answer} {z' : Zone} → result_of a z' ≡ done z (create_act g x) → result_of a z' ≡ done z (create_step n z r)
       unfolding guarded
       step_acts b d = d ∙ sym (ap (done z) (step_open ∙ passed_by (unless (create_range g x) Answer.BadRecord) [] (create_act g x) (allowed (create_range g x) b)))

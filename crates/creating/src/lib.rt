@@ -1,4 +1,6 @@
 // Create: header 0; words, children, trees, CPUs ascending; header running last. One store a step. Until the last one the header says that this is no zone.
+#![tactic(auto)]
+
 ghost use Rattle.std.specs.Prelude.{◌≡◌, [], ◌*◌, ◌<◌, max, length};
 ghost use Rattle.laws.specs.Tests.{Passes};
 ghost use Rattle.rules.specs.Numbers.{child_words, trees_of};
@@ -7,7 +9,7 @@ ghost use Rattle.rules.specs.Ranges.{creating_in};
 ghost use Rattle.rules.specs.Create.{create_zone, create_stage, create_step};
 ghost use Rattle.rules.specs.Step.{follow};
 ghost use Rattle.places.specs.Shapes.{shape_of};
-ghost use Rattle.calls.specs.Results.{zone, result, done, ran_to, Fits};
+ghost use Rattle.calls.specs.Results.{zone, result_of, done, ran_to, Fits};
 ghost use Rattle.creating.specs.Creates.{creatable_in};
 
 use calls::{Checked, Ended, Next};
@@ -28,7 +30,7 @@ fn creatable(
     trees: usize,
     cpus: usize,
 ) -> Checked
-    ensures* { λ r. ⌜ r ≡ creatable_in huge header words children trees cpus ⌝ }
+    ensures { result ≡ creatable_in huge header words children trees cpus }
 {
     if huge == 0 {
         return Checked::Refused(Answer::BadSize);
@@ -60,7 +62,7 @@ pub fn create(
     cpus: &[u64],
     huge: u64,
 ) -> Answer
-    ensures* { λ r. ⌜ result r (zone header.new words.now children.now trees.now cpus.now) ≡ done (zone header.old words.now children.now trees.now cpus.now) (create_zone huge (zone header.old words.now children.now trees.now cpus.now)) ⌝ }
+    ensures { result_of result (zone header.new words.now children.now trees.now cpus.now) ≡ done (zone header.old words.now children.now trees.now cpus.now) (create_zone huge (zone header.old words.now children.now trees.now cpus.now)) }
 {
     match creatable(
         huge,
@@ -79,7 +81,7 @@ pub fn create(
 }
 
 fn creating(stage: Creating) -> Answer
-    ensures* { λ r. ⌜ r ≡ Answer.UnderWay (Record.Create stage) ⌝ }
+    ensures { result ≡ Answer.UnderWay (Record.Create stage) }
 {
     Answer::UnderWay(Record::Create(stage))
 }
@@ -89,7 +91,7 @@ fn creating(stage: Creating) -> Answer
 // A word of all free frames.
 fn fresh_word(words: &mut [u64], shape: Shape, at: u32) -> Answer
     requires { (child_words * huge_of shape.size ≡ length words.old) × (at < child_words * huge_of shape.size) }
-    ensures* { λ r. ⌜ result r (zone [] words.new [] [] []) ≡ done (zone [] words.old [] [] []) (create_stage (shape_of shape) (Creating.Words at)) ⌝ }
+    ensures { result_of result (zone [] words.new [] [] []) ≡ done (zone [] words.old [] [] []) (create_stage (shape_of shape) (Creating.Words at)) }
 {
     match lower::store_fresh_word(words, at as usize) {
         lower::Stored::Stored => {
@@ -105,7 +107,7 @@ fn fresh_word(words: &mut [u64], shape: Shape, at: u32) -> Answer
 // A child of all free frames.
 fn fresh_child(children: &mut [u16], shape: Shape, huge: Huge) -> Answer
     requires { (huge_of shape.size ≡ length children.old) × (huge.0 < huge_of shape.size) }
-    ensures* { λ r. ⌜ result r (zone [] [] children.new [] []) ≡ done (zone [] [] children.old [] []) (create_stage (shape_of shape) (Creating.Children huge)) ⌝ }
+    ensures { result_of result (zone [] [] children.new [] []) ≡ done (zone [] [] children.old [] []) (create_stage (shape_of shape) (Creating.Children huge)) }
 {
     match lower::store_fresh_child(children, huge.0 as usize) {
         lower::Stored::Stored => {
@@ -121,7 +123,7 @@ fn fresh_child(children: &mut [u16], shape: Shape, huge: Huge) -> Answer
 // A tree with its capacity as its count.
 fn fresh_tree(trees: &mut [u16], shape: Shape, tree: Tree) -> Answer
     requires { (trees_of (shape_of shape) ≡ length trees.old) × (tree.0 < trees_of (shape_of shape)) }
-    ensures* { λ r. ⌜ result r (zone [] [] [] trees.new []) ≡ done (zone [] [] [] trees.old []) (create_stage (shape_of shape) (Creating.Trees tree)) ⌝ }
+    ensures { result_of result (zone [] [] [] trees.new []) ≡ done (zone [] [] [] trees.old []) (create_stage (shape_of shape) (Creating.Trees tree)) }
 {
     match entries::store_count(
         trees,
@@ -143,7 +145,7 @@ fn fresh_tree(trees: &mut [u16], shape: Shape, tree: Tree) -> Answer
 // A CPU without a tree.
 fn fresh_cpu(cpus: &mut [u64], shape: Shape, cpu: u8) -> Answer
     requires { (shape.cpus ≡ length cpus.old) × (cpu < shape.cpus) × (shape.cpus < 255) }
-    ensures* { λ r. ⌜ result r (zone [] [] [] [] cpus.new) ≡ done (zone [] [] [] [] cpus.old) (create_stage (shape_of shape) (Creating.Cpus cpu)) ⌝ }
+    ensures { result_of result (zone [] [] [] [] cpus.new) ≡ done (zone [] [] [] [] cpus.old) (create_stage (shape_of shape) (Creating.Cpus cpu)) }
 {
     match cpu_entries::store_absent(cpus, cpu as usize) {
         entries::Stored::Stored => {
@@ -159,7 +161,7 @@ fn fresh_cpu(cpus: &mut [u64], shape: Shape, cpu: u8) -> Answer
 // The header at last: a zone.
 fn born(header: &mut [u64], shape: Shape) -> Answer
     requires { length header.old ≡ 1 }
-    ensures* { λ r. ⌜ result r (zone header.new [] [] [] []) ≡ done (zone header.old [] [] [] []) (create_stage (shape_of shape) Creating.Header) ⌝ }
+    ensures { result_of result (zone header.new [] [] [] []) ≡ done (zone header.old [] [] [] []) (create_stage (shape_of shape) Creating.Header) }
 {
     match entries::store_running(header, shape.size) {
         entries::Stored::Stored => Answer::Done(Frame(0)),
@@ -177,7 +179,7 @@ fn create_stage(
     stage: Creating,
 ) -> Answer
     requires { (length header.old ≡ 1) × Fits shape words.old children.old trees.old cpus.old × Passes (creating_in (shape_of shape) stage) }
-    ensures* { λ r. ⌜ result r (zone header.new words.new children.new trees.new cpus.new) ≡ done (zone header.old words.old children.old trees.old cpus.old) (create_stage (shape_of shape) stage) ⌝ }
+    ensures { result_of result (zone header.new words.new children.new trees.new cpus.new) ≡ done (zone header.old words.old children.old trees.old cpus.old) (create_stage (shape_of shape) stage) }
 {
     match stage {
         Creating::Words(at) => fresh_word(words, shape, at),
@@ -198,7 +200,7 @@ pub fn create_step(
     huge: u64,
     rec: Record,
 ) -> Answer
-    ensures* { λ r. ⌜ result r (zone header.new words.new children.new trees.new cpus.new) ≡ done (zone header.old words.old children.old trees.old cpus.old) (create_step huge (zone header.old words.old children.old trees.old cpus.old) rec) ⌝ }
+    ensures { result_of result (zone header.new words.new children.new trees.new cpus.new) ≡ done (zone header.old words.old children.old trees.old cpus.old) (create_step huge (zone header.old words.old children.old trees.old cpus.old) rec) }
 {
     match creatable(
         huge,
@@ -238,7 +240,7 @@ pub fn run(
     rec: Record,
     fuel: u64,
 ) -> Ended
-    ensures* { λ r. ⌜ ran_to r (zone header.new words.new children.new trees.new cpus.new) ≡ follow (create_step huge) (max 1 fuel) 0 (Answer.UnderWay rec) (zone header.old words.old children.old trees.old cpus.old) ⌝ }
+    ensures { ran_to result (zone header.new words.new children.new trees.new cpus.new) ≡ follow (create_step huge) (max 1 fuel) 0 (Answer.UnderWay rec) (zone header.old words.old children.old trees.old cpus.old) }
 {
     let most = calls::at_least_one(fuel);
     let mut at = rec;

@@ -1,4 +1,6 @@
 // The lower level tried at the edges. A line is a call with its numbers, then the answer's number, then the entry afterwards.
+#![tactic(auto)]
+
 ghost use Rattle.std.specs.Prelude.{◌≡◌, ◌≤◌, ◌<◌, length};
 
 use libc::STDOUT_FILENO;

@@ -1,5 +1,7 @@
 // A zone's size; its header; a tree's entry. Each function reads one entry and stores one at most.
 // A function takes a slice of any length and any numbers. What is wrong it answers, and then it stores nothing.
+#![tactic(auto)]
+
 ghost use Rattle.std.specs.Prelude.{◌≡◌, [], ◌∷◌, ◌+◌, ◌*◌, ◌^◌, ◌≤◌, ◌<◌};
 ghost use Rattle.laws.specs.Tests.{passes};
 ghost use Rattle.laws.specs.Tables.{outcome};
@@ -25,7 +27,7 @@ const MOST_CPUS: usize = 64;
 // ---- a zone's size
 
 // The huge frames of a zone, less one: 1 to 65,536 of them and no other number.
-#[derive(Drop)]
+#[derive(Clone, Copy)]
 pub struct Size(pub u16);
 
 pub fn huge_frames(size: Size) -> u32
@@ -92,7 +94,7 @@ const CLEAN: u64 = 2;
 
 const MOST_HUGE: u64 = 65536;
 
-#[derive(Drop)]
+#[derive(Clone, Copy)]
 struct HeaderFields {
     identifier: u64,
     format: u64,
@@ -120,7 +122,7 @@ fn join_header(marker: u64, size: Size) -> u64
     IDENTIFIER << 48 | FORMAT << 44 | marker << 42 | (huge_frames(size) as u64) << 25
 }
 
-#[derive(Drop)]
+#[derive(Clone, Copy)]
 pub enum Zoned {
     NoHeader,
     NotAZone,
@@ -174,7 +176,7 @@ pub fn zone_says(header: &[u64]) -> Zoned
 }
 
 // An entry that is stored whatever stood there.
-#[derive(Drop)]
+#[derive(Clone, Copy)]
 pub enum Stored {
     Stored,
     NoEntry,
@@ -216,7 +218,7 @@ pub fn store_clean(header: &mut [u64], size: Size) -> Stored
 
 // ---- a tree's entry: reserved r (1), count (15)
 
-#[derive(Drop)]
+#[derive(Clone, Copy)]
 struct TreeFields {
     reserved: u16,
     count: u16,
@@ -252,7 +254,7 @@ fn tree_says(size: Size, tree: Tree, word: u16) -> TreeEntry
 }
 
 // A count that was taken.
-#[derive(Drop)]
+#[derive(Clone, Copy)]
 pub enum Counted {
     Count(u16),
     Damaged,
@@ -260,14 +262,14 @@ pub enum Counted {
 }
 
 // A count that was raised or stored.
-#[derive(Drop)]
+#[derive(Clone, Copy)]
 pub enum Added {
     Added,
     Damaged,
     NoTree,
 }
 
-#[derive(Drop)]
+#[derive(Clone, Copy)]
 pub enum Reserved {
     Count(u16),
     Passed,
@@ -275,7 +277,7 @@ pub enum Reserved {
     NoTree,
 }
 
-#[derive(Drop)]
+#[derive(Clone, Copy)]
 pub enum TreeLook {
     Entry(TreeEntry),
     NoTree,

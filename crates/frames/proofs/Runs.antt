@@ -8,14 +8,14 @@ use Rattle.rules.specs.declared.Record.{Record}
 use Rattle.rules.specs.declared.Answer.{Answer}
 use Rattle.calls.specs.declared.Ended.{Ended}
 use Rattle.calls.specs.declared.Next.{Next}
-use Rattle.calls.specs.Results.{Result, result, ran_to, next_in}
+use Rattle.calls.specs.Results.{Result, result_of, ran_to, next_in}
 use Rattle.calls.proofs.Runs.{NextTells, next_tells, follow_ended}
 use Rattle.requests.specs.declared.Line.{Line}
 use Rattle.frames.specs.declared.Begun.{Begun}
 use Rattle.frames.specs.Requests.{fuel, begun_by, ran_by, replied}
 
 -- an answer a with the tables z, as a call is said to leave them; m is what goes on
-module _ (f : Zone → Record → Plan) (n : ℕ) {a a' : Answer} {z z' : Zone} {m : Next} (b : result a z ≡ result a' z') (e : m ≡ next_in a) where
+module _ (f : Zone → Record → Plan) (n : ℕ) {a a' : Answer} {z z' : Zone} {m : Next} (b : result_of a z ≡ result_of a' z') (e : m ≡ next_in a) where
   begun : follow f n 0 a z ≡ follow f n 0 a' z'
   begun = ap (λ (o : Result). follow f n 0 o.answer o.zone) b
 

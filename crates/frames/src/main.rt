@@ -1,5 +1,7 @@
 // Requests from standard input, each run to its end: answer number, frame and steps, a line each. The first line names n and the CPUs, and is repeated.
 // A line of any other form ends the run.
+#![tactic(auto)]
+
 ghost use Rattle.std.specs.Prelude.{◌≡◌, ◌≤◌};
 ghost use Rattle.rules.specs.Create.{create_zone, create_step};
 ghost use Rattle.rules.specs.Step.{step, follow, after};
@@ -25,7 +27,7 @@ const FUEL: u64 = 1000000;
 // ---- output: a buffer of 65,536 bytes, written when it is full and at the end
 
 // How many bytes wait, and whether every write so far went well.
-#[derive(Drop)]
+#[derive(Clone, Copy)]
 struct Out {
     waiting: u16,
     works: bool,
@@ -117,13 +119,13 @@ fn finish(buffer: &[u8], out: Out) {
 // ---- input, in pieces of 65,536 bytes
 
 // What the last read answered, and where its next line begins.
-#[derive(Drop)]
+#[derive(Clone, Copy)]
 struct Piece {
     got: isize,
     next: usize,
 }
 
-#[derive(Drop)]
+#[derive(Clone, Copy)]
 enum Lined {
     Line { line: Line, rest: Piece },
     Nothing,
@@ -176,7 +178,7 @@ fn next_line(input: &mut [u8], from: Piece) -> Lined {
 
 // ---- requests, each run to its end
 
-#[derive(Drop)]
+#[derive(Clone, Copy)]
 enum Begun {
     Answered(Answer),
     NoRequest,
@@ -228,7 +230,7 @@ fn run(
     }
 }
 
-#[derive(Drop)]
+#[derive(Clone, Copy)]
 enum Replied {
     GoesOn(Out),
     Ends(Out),

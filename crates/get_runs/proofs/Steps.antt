@@ -17,7 +17,7 @@ use Rattle.rules.specs.Take.{get, take}
 use Rattle.rules.specs.Step.{act, step, Ran, follow}
 use Rattle.places.specs.Shapes.{shape_of, block_at_in, ranged}
 use Rattle.places.specs.declared.BlockAt.{BlockAt}
-use Rattle.calls.specs.Results.{zone, result, done, way_by, went_to, Fits, Opened}
+use Rattle.calls.specs.Results.{zone, result_of, done, way_by, went_to, Fits, Opened}
 use Rattle.calls.proofs.Opened.{checked_open}
 use Rattle.cpu_entries.specs.declared.Claimed.{Claimed as Owned}
 use Rattle.cpu_entries.specs.declared.Held.{Held}
@@ -38,7 +38,7 @@ module _ {s : Shape} {cpu : ℕ} {h w c t p : List ℕ} (o : Opened s cpu h w c 
   ready : (x : Taking) → Passes (taking_in (shape_of s) cpu x) → Fits s w c t p × Passes (cpu_in (shape_of s) cpu ++ taking_in (shape_of s) cpu x)
   ready x b = ((checked_open h w c t p o.checks).2, (o.cpu_is_in, b))
 
-  acts : (x : Taking) → Passes (taking_in (shape_of s) cpu x) → {a : Answer} {w' c' t' p' : List ℕ} → result a (zone [] w' c' t' p') ≡ done (zone [] w c t p) (carried (shape_of s) (zone [] w c t p) (take (shape_of s) cpu x))
+  acts : (x : Taking) → Passes (taking_in (shape_of s) cpu x) → {a : Answer} {w' c' t' p' : List ℕ} → result_of a (zone [] w' c' t' p') ≡ done (zone [] w c t p) (carried (shape_of s) (zone [] w c t p) (take (shape_of s) cpu x))
       → Makes (zone h w c t p) (Record.Get cpu x) a (zone h w' c' t' p')
   unfolding step_range act
   acts x b d = step_acts h w c t p (Record.Get cpu x) o.checks refl (o.cpu_is_in, b) d
@@ -65,7 +65,7 @@ module _ {s : Shape} {cpu : ℕ} {h w c t p : List ℕ} (o : Opened s cpu h w c 
         go : (y : Bool) → passes (block_in (shape_of s) b) ≡ y → Makes (zone h w c t p) (Record.Get cpu (Taking.Last b)) a (zone h w c t m)
         go true q = let d = all_passed (block_in (shape_of s) b) q in acts (Taking.Last b) d (get_last cpu (Taking.Last b) (ready (Taking.Last b) d) refl e)
         go false q =
-            ap (λ (x : Outcome Answer). result x.said (zone h w c t x.table)) (e ∙ pick_no _ _ _ q)
+            ap (λ (x : Outcome Answer). result_of x.said (zone h w c t x.table)) (e ∙ pick_no _ _ _ q)
             ∙ step_out h w c t p (Record.Get cpu (Taking.Last b)) o.checks refl (fails_of (step_range (shape_of s) (Record.Get cpu (Taking.Last b))) (λ k. true_false (sym (passes_of (block_in (shape_of s) b) k.1) ∙ q)))
 
 -- ---- the last step

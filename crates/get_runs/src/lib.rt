@@ -1,5 +1,7 @@
 // A get from its first stage on, in one call: the own entry, the search of its tree, the last step. Where another stage follows, the record is handed back.
 // A function answers where the get stands after the stages that it made; no answer and no record is made between the stages.
+#![tactic(auto)]
+
 ghost use Rattle.std.specs.Prelude.{◌≡◌};
 ghost use Rattle.laws.specs.Tests.{Passes};
 ghost use Rattle.laws.specs.Tables.{outcome};
@@ -23,7 +25,7 @@ use rules::{Answer, Bit, Block, Frame, Huge, Order, Pass, Place, Record, Run, Ta
 const CHILD_WORDS: u8 = 8;
 
 // Where a get stands: before a stage, or at its end.
-#[derive(Drop)]
+#[derive(Clone, Copy)]
 enum At {
     Own,
     Try,
@@ -38,7 +40,7 @@ enum At {
 
 // A get that stands there, with what the stages after it need; what a stage has no use for is 0. Before a stage that is refused it stands still: a refusal
 // stores nothing, and the single step answers it. The fields fill their eight bytes and lie apart, so that a store of one is what a load of it reads.
-#[derive(Drop)]
+#[derive(Clone, Copy)]
 struct Left {
     at: At,
     start: u8,

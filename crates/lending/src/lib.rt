@@ -1,4 +1,6 @@
 // What the lower level said of a tree's part that was lent to it, as an answer.
+#![tactic(auto)]
+
 ghost use Rattle.std.specs.Prelude.{◌≡◌};
 ghost use Rattle.lending.specs.Answers.{given_answer};
 

@@ -1,5 +1,7 @@
 // Looks at a whole table, entry by entry, the lowest number first; nothing is stored. Words and children are read by the lower level alone.
 // A function takes tables of any length.
+#![tactic(auto)]
+
 ghost use Rattle.std.specs.Prelude.{◌≡◌};
 ghost use Rattle.lower.specs.Steps.{look_in, zeros_in};
 ghost use Rattle.looks.specs.Entries.{formed_as, empty_in, flag_in, counts_as, settled_in, tree_formed_in, cpu_formed_in, tree_count_in, cpu_count_in, held_in, child_count_in, tree_settled_in};

@@ -112,12 +112,12 @@ next_below n c h = pick_elim (λ x. x < n) (eqb (suc c) n) (λ b. omega arith) (
 -- ---- the loop over a child's words: those passed had no free run, so what is left is all of them, whatever follows
 
 pub record Words (s : ℕ) (cs ws₀ : List ℕ) (found₀ : Searched) (c : ℕ) (ws : List ℕ) (found : Searched) (w : ℕ) : Type 0 where
-  pub same_words_lem : ws ≡ ws₀
+  pub same_words : ws ≡ ws₀
   pub none_yet : found ≡ found₀
   pub left : (after : Search) → search_words s 8 cs ws₀ c 0 after ≡ search_words s (8 - w) cs ws c w after
 
 pub words_start : (s : ℕ) (cs ws : List ℕ) (found : Searched) (c : ℕ) → Words s cs ws found c ws found 0
-words_start s cs ws found c = record { same_words_lem = refl; none_yet = refl; left = λ after. refl }
+words_start s cs ws found c = record { same_words = refl; none_yet = refl; left = λ after. refl }
 
 module _ {s : ℕ} {cs ws₀ ws vs : List ℕ} {found₀ found : Searched} {c w : ℕ} {b : Bit} (i : Words s cs ws₀ found₀ c ws found w) (h : w < 8) (e : outcome b vs ≡ step_at (take_run s) ws (8 * c + w)) where
   one_less : 8 - w ≡ suc (8 - (w + 1))
@@ -125,7 +125,7 @@ module _ {s : ℕ} {cs ws₀ ws vs : List ℕ} {found₀ found : Searched} {c w 
 
   pub words_full : b ≡ Bit.Full → Words s cs ws₀ found₀ c vs found (w + 1)
   words_full p = record {
-    same_words_lem = word_kept s cs ws c w e p ∙ i.same_words_lem;
+    same_words = word_kept s cs ws c w e p ∙ i.same_words;
     none_yet = i.none_yet;
     left = λ after. i.left after ∙ rw one_less (word_full s cs ws c w e _ p after);
   }
@@ -190,8 +190,8 @@ module _ {s : ℕ} {cs₀ ws₀ cs ws : List ℕ} {start n c t : ℕ} {found : S
         turns_given l given =
             let x = rw is at given in
             let z : 8 - w ≡ 0 = omega arith in
-            next_turn j.none_yet (step_length (give_count s) m c x ∙ step_length (claim s) cs c e) j.same_words_lem
-            (turn_taken s cs ws c _ e p ∙ j.left _ ∙ rw (z, words_end, ← x, j.same_words_lem) refl)
+            next_turn j.none_yet (step_length (give_count s) m c x ∙ step_length (claim s) cs c e) j.same_words
+            (turn_taken s cs ws c _ e p ∙ j.left _ ∙ rw (z, words_end, ← x, j.same_words) refl)
 
 -- ---- two results that the search's contract permits are equal
 pub same_search : (o : Search) (f g : Searched) (cs ds ws vs : List ℕ) → search f cs ws ≡ o → search g ds vs ≡ o → (f ≡ g) × (cs ≡ ds) × (ws ≡ vs)

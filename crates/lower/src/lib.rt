@@ -1,5 +1,7 @@
 // The lower level: words and children, all that survives a power cut. Nothing above this crate reads or stores a word or a child.
 // A function takes a slice of any length, any number and any entry. What is wrong it answers, and then it stores nothing.
+#![tactic(auto)]
+
 ghost use Rattle.std.specs.Prelude.{◌≡◌, [], ◌∷◌, ◌+◌, ◌-◌, ◌*◌, ◌^◌, ◌≤◌, ◌<◌, length};
 ghost use Rattle.laws.specs.Fields.{join};
 ghost use Rattle.rules.specs.Blocks.{run_size};
@@ -23,7 +25,7 @@ const MOST_CHILDREN: usize = 65536;
 
 // ---- one child entry: a (1), zero (5), count (10)
 
-#[derive(Drop)]
+#[derive(Clone, Copy)]
 struct Fields {
     a: u16,
     zero: u16,
@@ -69,7 +71,7 @@ fn says(entry: u16) -> ChildEntry
 
 // ---- one word
 
-#[derive(Drop)]
+#[derive(Clone, Copy)]
 enum Low {
     At { bit: u8, word: u64 },
     Full,
@@ -119,14 +121,14 @@ fn zeros_of(word: u64) -> u32
 // ---- answers
 
 // A claim on a child, or the taking of a huge frame.
-#[derive(Drop)]
+#[derive(Clone, Copy)]
 pub enum Claimed {
     Entry(Took),
     NoChild,
 }
 
 // The taking of a run.
-#[derive(Drop)]
+#[derive(Clone, Copy)]
 pub enum Taken {
     Word(Bit),
     NoChild,
@@ -134,7 +136,7 @@ pub enum Taken {
 }
 
 // A count given back, a run or a huge frame cleared.
-#[derive(Drop)]
+#[derive(Clone, Copy)]
 pub enum Given {
     Entry(Gave),
     NoChild,
@@ -143,13 +145,13 @@ pub enum Given {
 }
 
 // An entry of create's.
-#[derive(Drop)]
+#[derive(Clone, Copy)]
 pub enum Stored {
     Stored,
     NoEntry,
 }
 
-#[derive(Drop)]
+#[derive(Clone, Copy)]
 pub enum Recounted {
     Stored,
     Damaged,
@@ -157,32 +159,32 @@ pub enum Recounted {
     NoField,
 }
 
-#[derive(Drop)]
+#[derive(Clone, Copy)]
 pub enum Looked {
     Entry(ChildEntry),
     NoChild,
 }
 
-#[derive(Drop)]
+#[derive(Clone, Copy)]
 pub enum Zeros {
     Bits(u16),
     NoField,
 }
 
-#[derive(Drop)]
+#[derive(Clone, Copy)]
 pub enum Empty {
     Yes,
     No,
     NoField,
 }
 
-#[derive(Drop)]
+#[derive(Clone, Copy)]
 pub enum Summed {
     Frames(u32),
     TooMany,
 }
 
-#[derive(Drop)]
+#[derive(Clone, Copy)]
 pub enum Searched {
     Frame(Frame),
     Nothing,
@@ -460,7 +462,7 @@ pub fn look(children: &[u16], child: usize) -> Looked
 }
 
 // The zero bits of a child's field.
-pub fn zero_bits_lem(words: &[u64], child: usize) -> Zeros
+pub fn zero_bits(words: &[u64], child: usize) -> Zeros
     ensures { result ≡ zeros_in words.now child }
 {
     if words.len() / CHILD_WORDS <= child {

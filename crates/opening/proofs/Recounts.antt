@@ -20,7 +20,7 @@ use Rattle.entries.specs.Sizes.{huge_of}
 use Rattle.places.specs.Shapes.{shape_of}
 use Rattle.calls.specs.declared.Ended.{Ended}
 use Rattle.calls.specs.declared.Way.{Way}
-use Rattle.calls.specs.Results.{zone, result, done, ran_to, checked, way_of, went_to, WentOn}
+use Rattle.calls.specs.Results.{zone, result_of, done, ran_to, checked, way_of, went_to, WentOn}
 use Rattle.calls.proofs.Opened.{checked_in, checked_open}
 use Rattle.calls.proofs.Runs.{stepped, way_goes}
 use Rattle.opening.specs.Types.{Opening, Record, Answer, Shape, Checked}
@@ -52,8 +52,8 @@ module _ (h w t p : List ℕ) (fuel : ℕ) where
     ready : (child_words * huge_of s.size ≡ length w) × (huge_of s.size ≡ length c) × (i < huge_of s.size)
     ready = children_ready (checked_open h w c t p checks).2 stage in_range refl
 
-    module _ {a : Answer} (r : result a (child_zone w m) ≡ done (child_zone w c) (open_at (shape_of s) (child_zone w c) stage)) where
-      child_step : result a (zone h w m t p) ≡ done (zone h w c t p) (open_step (zone h w c t p) (Record.Open stage))
+    module _ {a : Answer} (r : result_of a (child_zone w m) ≡ done (child_zone w c) (open_at (shape_of s) (child_zone w c) stage)) where
+      child_step : result_of a (zone h w m t p) ≡ done (zone h w c t p) (open_step (zone h w c t p) (Record.Open stage))
       child_step = step_acts h w c t p (Record.Open stage) checks refl refl (passes_of (opening_in (shape_of s) stage) in_range) (children_aside w c t p s refl r)
 
       child_goes : follow open_step (fuel - (k + 1)) (k + 1) a (zone h w m t p) ≡ at_child_lem c i k

@@ -33,7 +33,7 @@ use Rattle.entries.specs.Sizes as Sizes
 use Rattle.entries.specs.Steps.{store_count_in, stored_in}
 use Rattle.places.specs.Shapes.{shape_of}
 use Rattle.places.proofs.Ranges.{trees_same, capacity_same}
-use Rattle.calls.specs.Results.{zone, Result, result, done, Fits}
+use Rattle.calls.specs.Results.{zone, Result, result_of, done, Fits}
 use Rattle.calls.proofs.Opened.{stores_nothing, stands, passed_by}
 use Rattle.calls.proofs.Stored.{entry_stored, count_stored, stored_said, added_said, added_sound, next_entry, next_table}
 use Rattle.looks.specs.Entries.{child_count_in}
@@ -47,7 +47,7 @@ module _ (g : Rules) (z : Zone) (s : Opening) where
   abbrev damaged : Refusal
   damaged = on (not (opening_sound g z s)) Answer.Damaged
 
-  stage_damaged : opening_sound g z s ≡ false → result Answer.Damaged z ≡ done z (open_at g z s)
+  stage_damaged : opening_sound g z s ≡ false → result_of Answer.Damaged z ≡ done z (open_at g z s)
   stage_damaged b = stores_nothing z (stands damaged [] (open_stage g z s) (ap not b))
 
   stage_sound : opening_sound g z s ≡ true → open_at g z s ≡ open_stage g z s
@@ -116,7 +116,7 @@ module _ (s : Shape) (i : Huge) (w l m : List ℕ) (k : (child_words * Sizes.hug
   formed_same = ap well_formed child_same
 
   abbrev Recounts : Answer → Type 0
-  Recounts r = result r (child_zone w m) ≡ done (child_zone w l) (open_at (shape_of s) (child_zone w l) (Opening.Children i))
+  Recounts r = result_of r (child_zone w m) ≡ done (child_zone w l) (open_at (shape_of s) (child_zone w l) (Opening.Children i))
 
   pub child_none : {r : Answer} → x ≡ Recounted.NoChild → Recounts r
   child_none q = absurd (tells q)
@@ -125,14 +125,14 @@ module _ (s : Shape) (i : Huge) (w l m : List ℕ) (k : (child_words * Sizes.hug
   field_none q = absurd (tells q)
 
   pub child_damaged : x ≡ Recounted.Damaged → Recounts Answer.Damaged
-  child_damaged q = let d = tells q in ap (λ a. result Answer.Damaged (child_zone w a)) d.1 ∙ stage_damaged (shape_of s) (child_zone w l) (Opening.Children i) (formed_same ∙ d.0)
+  child_damaged q = let d = tells q in ap (λ a. result_of Answer.Damaged (child_zone w a)) d.1 ∙ stage_damaged (shape_of s) (child_zone w l) (Opening.Children i) (formed_same ∙ d.0)
 
   module _ (q : x ≡ Recounted.Stored) {n : ℕ} (b : n ≡ Sizes.huge_of s.size) {r : Answer} where
     child_made : r ≡ (open_stage (shape_of s) (child_zone w l) (Opening.Children i)).answer → Recounts r
     unfolding open_stage stored
     child_made a =
         let d = tells q in
-        ap₂ (λ y u. result y (child_zone w u)) a (d.1 ∙ ap (set l i.0) (sym (ap₂ recount zeros_same child_same)))
+        ap₂ (λ y u. result_of y (child_zone w u)) a (d.1 ∙ ap (set l i.0) (sym (ap₂ recount zeros_same child_same)))
         ∙ sym (ap (done (child_zone w l)) (stage_sound (shape_of s) (child_zone w l) (Opening.Children i) (formed_same ∙ d.0)))
 
     pub child_next : i.0 + 1 < n → r ≡ opening (Opening.Children (huge (i.0 + 1))) → Recounts r
@@ -153,7 +153,7 @@ module _ (s : Shape) (t : Tree) (c l : List ℕ) (k : (Sizes.huge_of s.size ≡ 
   unfolding part_formed_in opening_sound
   part_same = f ∙ pick_yes _ _ _ (le-leb _ (length c) part_there)
 
-  pub part_damaged : not b ≡ true → result Answer.Damaged (tree_zone c l) ≡ done (tree_zone c l) (open_at (shape_of s) (tree_zone c l) (Opening.Trees t))
+  pub part_damaged : not b ≡ true → result_of Answer.Damaged (tree_zone c l) ≡ done (tree_zone c l) (open_at (shape_of s) (tree_zone c l) (Opening.Trees t))
   part_damaged a = stage_damaged (shape_of s) (tree_zone c l) (Opening.Trees t) (sym part_same ∙ not-true b a)
 
   -- a tree's children count its capacity at most
@@ -170,7 +170,7 @@ module _ (s : Shape) (t : Tree) (c l : List ℕ) (k : (Sizes.huge_of s.size ≡ 
     tree_stored = (rw count_same at o) ∙ count_stored s.size t l (omega (arith, k.1, k.2)) (child_count (shape_of s) (tree_zone c l) t) (omega (arith, count_in_lem, capacity_same s t.0))
 
     abbrev Sums : Answer → Type 0
-    Sums r = result r (tree_zone c m) ≡ done (tree_zone c l) (open_at (shape_of s) (tree_zone c l) (Opening.Trees t))
+    Sums r = result_of r (tree_zone c m) ≡ done (tree_zone c l) (open_at (shape_of s) (tree_zone c l) (Opening.Trees t))
 
     pub tree_none : {r : Answer} → x ≡ Added.NoTree → Sums r
     tree_none q = added_said tree_stored q
@@ -182,7 +182,7 @@ module _ (s : Shape) (t : Tree) (c l : List ℕ) (k : (Sizes.huge_of s.size ≡ 
       tree_made : r ≡ (open_stage (shape_of s) (tree_zone c l) (Opening.Trees t)).answer → Sums r
       unfolding open_stage stored
       tree_made q =
-          ap₂ (λ y (u : Outcome Added). result y (tree_zone c u.table)) q tree_stored
+          ap₂ (λ y (u : Outcome Added). result_of y (tree_zone c u.table)) q tree_stored
           ∙ sym (ap (done (tree_zone c l)) (stage_sound (shape_of s) (tree_zone c l) (Opening.Trees t) (sym part_same ∙ not-false b a)))
 
       pub tree_next : t.0 + 1 < j → r ≡ opening (Opening.Trees (tree (t.0 + 1))) → Sums r
@@ -196,14 +196,14 @@ module _ (s : Shape) (t : Tree) (c l : List ℕ) (k : (Sizes.huge_of s.size ≡ 
 -- CPU j
 module _ (s : Shape) (j : ℕ) (l m : List ℕ) (h : j < length l) {x : Stored} (o : outcome x m ≡ stored_in j 0 l) where
   abbrev Forgets : Answer → Type 0
-  Forgets r = result r (cpu_zone m) ≡ done (cpu_zone l) (open_at (shape_of s) (cpu_zone l) (Opening.Cpus j))
+  Forgets r = result_of r (cpu_zone m) ≡ done (cpu_zone l) (open_at (shape_of s) (cpu_zone l) (Opening.Cpus j))
 
   pub cpu_none : {r : Answer} → x ≡ Stored.NoEntry → Forgets r
   cpu_none q = stored_said (o ∙ entry_stored j l h 0) q
 
   cpu_made : {r : Answer} → r ≡ (open_stage (shape_of s) (cpu_zone l) (Opening.Cpus j)).answer → Forgets r
   unfolding open_stage opening_sound stored cpu_word
-  cpu_made q = ap₂ (λ y (u : Outcome Stored). result y (cpu_zone u.table)) q (o ∙ entry_stored j l h 0) ∙ sym (ap (done (cpu_zone l)) (stage_sound (shape_of s) (cpu_zone l) (Opening.Cpus j) refl))
+  cpu_made q = ap₂ (λ y (u : Outcome Stored). result_of y (cpu_zone u.table)) q (o ∙ entry_stored j l h 0) ∙ sym (ap (done (cpu_zone l)) (stage_sound (shape_of s) (cpu_zone l) (Opening.Cpus j) refl))
 
   pub cpu_next : {r : Answer} → j + 1 < s.cpus → r ≡ opening (Opening.Cpus (j + 1)) → Forgets r
   unfolding open_stage
@@ -234,31 +234,31 @@ module _ (w c t p : List ℕ) (s : Shape) where
 
   -- with the others put back
   abbrev with_children : Result → Result
-  with_children x = result x.answer (zone [] w x.zone.children t p)
+  with_children x = result_of x.answer (zone [] w x.zone.children t p)
 
   abbrev with_trees : Result → Result
-  with_trees x = result x.answer (zone [] w c x.zone.trees p)
+  with_trees x = result_of x.answer (zone [] w c x.zone.trees p)
 
   abbrev with_cpus : Result → Result
-  with_cpus x = result x.answer (zone [] w c t x.zone.cpus)
+  with_cpus x = result_of x.answer (zone [] w c t x.zone.cpus)
 
   module _ {stage : Opening} {r : Answer} {m : List ℕ} where
-    pub children_aside : {i : Huge} → stage ≡ Opening.Children i → result r (child_zone w m) ≡ done (child_zone w c) (open_at (shape_of s) (child_zone w c) (Opening.Children i)) → result r (zone [] w m t p) ≡ done whole (open_at (shape_of s) whole stage)
+    pub children_aside : {i : Huge} → stage ≡ Opening.Children i → result_of r (child_zone w m) ≡ done (child_zone w c) (open_at (shape_of s) (child_zone w c) (Opening.Children i)) → result_of r (zone [] w m t p) ≡ done whole (open_at (shape_of s) whole stage)
     unfolding opening_sound open_stage stored
     children_aside {i} e o = rw e (ap with_children o ∙ stage_elim (shape_of s) whole (Opening.Children i) (λ (q : Plan). with_children (done (child_zone w c) q) ≡ done whole q) refl refl)
 
-    pub trees_aside : {i : Tree} → stage ≡ Opening.Trees i → result r (tree_zone c m) ≡ done (tree_zone c t) (open_at (shape_of s) (tree_zone c t) (Opening.Trees i)) → result r (zone [] w c m p) ≡ done whole (open_at (shape_of s) whole stage)
+    pub trees_aside : {i : Tree} → stage ≡ Opening.Trees i → result_of r (tree_zone c m) ≡ done (tree_zone c t) (open_at (shape_of s) (tree_zone c t) (Opening.Trees i)) → result_of r (zone [] w c m p) ≡ done whole (open_at (shape_of s) whole stage)
     unfolding opening_sound open_stage child_count stored
     trees_aside {i} e o = rw e (ap with_trees o ∙ stage_elim (shape_of s) whole (Opening.Trees i) (λ (q : Plan). with_trees (done (tree_zone c t) q) ≡ done whole q) refl refl)
 
-    pub cpus_aside : {j : ℕ} → stage ≡ Opening.Cpus j → result r (cpu_zone m) ≡ done (cpu_zone p) (open_at (shape_of s) (cpu_zone p) (Opening.Cpus j)) → result r (zone [] w c t m) ≡ done whole (open_at (shape_of s) whole stage)
+    pub cpus_aside : {j : ℕ} → stage ≡ Opening.Cpus j → result_of r (cpu_zone m) ≡ done (cpu_zone p) (open_at (shape_of s) (cpu_zone p) (Opening.Cpus j)) → result_of r (zone [] w c t m) ≡ done whole (open_at (shape_of s) whole stage)
     unfolding opening_sound open_stage stored
     cpus_aside {j} e o = rw e (ap with_cpus o ∙ stage_elim (shape_of s) whole (Opening.Cpus j) (λ (q : Plan). with_cpus (done (cpu_zone p) q) ≡ done whole q) refl refl)
 
   -- and so does the header
   module _ (h : List ℕ) where
     abbrev with_header : Result → Result
-    with_header x = result x.answer (zone h x.zone.words x.zone.children x.zone.trees x.zone.cpus)
+    with_header x = result_of x.answer (zone h x.zone.words x.zone.children x.zone.trees x.zone.cpus)
 
     header_kept : (stage : Opening) → with_header (done whole (open_at (shape_of s) whole stage)) ≡ done (zone h w c t p) (open_at (shape_of s) (zone h w c t p) stage)
     unfolding opening_sound open_stage child_count stored
@@ -266,5 +266,5 @@ module _ (w c t p : List ℕ) (s : Shape) where
     header_kept (Opening.Trees i) = stage_elim (shape_of s) whole (Opening.Trees i) (λ (q : Plan). with_header (done whole q) ≡ done (zone h w c t p) q) refl refl
     header_kept (Opening.Cpus j) = stage_elim (shape_of s) whole (Opening.Cpus j) (λ (q : Plan). with_header (done whole q) ≡ done (zone h w c t p) q) refl refl
 
-    pub header_aside : (stage : Opening) {r : Answer} {w' c' t' p' : List ℕ} → result r (zone [] w' c' t' p') ≡ done whole (open_at (shape_of s) whole stage) → result r (zone h w' c' t' p') ≡ done (zone h w c t p) (open_at (shape_of s) (zone h w c t p) stage)
+    pub header_aside : (stage : Opening) {r : Answer} {w' c' t' p' : List ℕ} → result_of r (zone [] w' c' t' p') ≡ done whole (open_at (shape_of s) whole stage) → result_of r (zone h w' c' t' p') ≡ done (zone h w c t p) (open_at (shape_of s) (zone h w c t p) stage)
     header_aside stage o = ap with_header o ∙ header_kept stage

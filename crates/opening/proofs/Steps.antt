@@ -19,7 +19,7 @@ use Rattle.rules.specs.Open.{children_formed, flags_empty, opening, open_sound, 
 use Rattle.entries.specs.Sizes.{huge_of}
 use Rattle.entries.specs.Steps.{stored_in}
 use Rattle.places.specs.Shapes as Shapes
-use Rattle.calls.specs.Results.{zone, result, done, Fits}
+use Rattle.calls.specs.Results.{zone, result_of, done, Fits}
 use Rattle.calls.proofs.Opened.{stores_nothing, stands, passed_by, checked_in, checked_refused, checked_open}
 use Rattle.calls.proofs.Stored.{entry_stored}
 use Rattle.looks.specs.Looks.{children_formed_in, flags_empty_in}
@@ -56,7 +56,7 @@ module _ (h w c t p : List ℕ) where
   abbrev opens : Plan
   opens = guarded (damaged (shape_of z) (is_running (header_of z)) ∷ []) (starts (shape_of z) (is_running (header_of z)))
 
-  pub open_refused : {a : Answer} → openable_by h w c t p ≡ Openable.Refused a → result a z ≡ done z (open_zone z)
+  pub open_refused : {a : Answer} → openable_by h w c t p ≡ Openable.Refused a → result_of a z ≡ done z (open_zone z)
   unfolding open_zone open_sound guarded
   open_refused e = stores_nothing z (openable_refused h w c t p e opens)
 
@@ -68,14 +68,14 @@ module _ (h w c t p : List ℕ) where
     unfolding open_zone open_sound guarded
     ready_opens = k.1 opens ∙ ap₂ (λ (i : Rules) j. guarded (damaged i j ∷ []) (starts i j)) k.0 k.3
 
-    open_damaged : false ≡ sound (shape_in m) b → result Answer.Damaged z ≡ done z (open_zone z)
+    open_damaged : false ≡ sound (shape_in m) b → result_of Answer.Damaged z ≡ done z (open_zone z)
     open_damaged q = stores_nothing z (ready_opens ∙ stands (damaged (shape_in m) b) [] (starts (shape_in m) b) (ap not (sym q)))
 
     -- the header's store
-    open_starts : true ≡ sound (shape_in m) b → {r : Answer} {h' : List ℕ} → outcome r h' ≡ start_in m (stage_by b) h → result r (zone h' w c t p) ≡ done z (open_zone z)
+    open_starts : true ≡ sound (shape_in m) b → {r : Answer} {h' : List ℕ} → outcome r h' ≡ start_in m (stage_by b) h → result_of r (zone h' w c t p) ≡ done z (open_zone z)
     unfolding guarded stored
     open_starts q o =
-        ap (λ (v : Outcome Answer). result v.said (zone v.table w c t p)) (o ∙ ap (λ (v : Outcome Stored). wrapped (start_as (stage_by b)) v) (entry_stored 0 h (omega (arith, k.4)) (header_word running (huge_of m))))
+        ap (λ (v : Outcome Answer). result_of v.said (zone v.table w c t p)) (o ∙ ap (λ (v : Outcome Stored). wrapped (start_as (stage_by b)) v) (entry_stored 0 h (omega (arith, k.4)) (header_word running (huge_of m))))
         ∙ sym (ap (done z) (ready_opens ∙ passed_by (damaged (shape_in m) b) [] (starts (shape_in m) b) (ap not (sym q))))
 
     -- as the code looks at the children
@@ -83,7 +83,7 @@ module _ (h w c t p : List ℕ) where
       formed_same : r ≡ children_formed (shape_in m) z
       formed_same = a ∙ zone_formed (shape_by p m) h w c t p k.2
 
-      malformed : not r ≡ true → result Answer.Damaged z ≡ done z (open_zone z)
+      malformed : not r ≡ true → result_of Answer.Damaged z ≡ done z (open_zone z)
       malformed q = open_damaged (first_fails (children_formed (shape_in m) z) (pick b (flags_empty (shape_in m) z) true) formed_same q)
 
       all_formed : not r ≡ false → {u : Bool} → u ≡ pick b (flags_empty (shape_in m) z) true → u ≡ sound (shape_in m) b
@@ -95,7 +95,7 @@ module _ (h w c t p : List ℕ) where
       cut : Ready h w c t p m true
       cut = openable_cut h w c t p e
 
-      pub cut_malformed : not r ≡ true → result Answer.Damaged z ≡ done z (open_zone z)
+      pub cut_malformed : not r ≡ true → result_of Answer.Damaged z ≡ done z (open_zone z)
       cut_malformed = malformed m true cut a
 
       module _ (q : not r ≡ false) {u : Bool} (d : u ≡ flags_empty_in c w) where
@@ -103,10 +103,10 @@ module _ (h w c t p : List ℕ) where
         unfolding pick
         cut_sound = all_formed m true cut a q (d ∙ zone_flags (shape_by p m) h w c t p cut.2)
 
-        pub cut_flagged : not u ≡ true → result Answer.Damaged z ≡ done z (open_zone z)
+        pub cut_flagged : not u ≡ true → result_of Answer.Damaged z ≡ done z (open_zone z)
         cut_flagged f = open_damaged m true cut (sym (not-true u f) ∙ cut_sound)
 
-        pub cut_starts : not u ≡ false → {x : Answer} {h' : List ℕ} → outcome x h' ≡ start_in m (Opening.Children (huge 0)) h → result x (zone h' w c t p) ≡ done z (open_zone z)
+        pub cut_starts : not u ≡ false → {x : Answer} {h' : List ℕ} → outcome x h' ≡ start_in m (Opening.Children (huge 0)) h → result_of x (zone h' w c t p) ≡ done z (open_zone z)
         unfolding pick
         cut_starts f = open_starts m true cut (sym (not-false u f) ∙ cut_sound)
 
@@ -114,10 +114,10 @@ module _ (h w c t p : List ℕ) where
       closed : Ready h w c t p m false
       closed = openable_closed h w c t p e
 
-      pub closed_malformed : not r ≡ true → result Answer.Damaged z ≡ done z (open_zone z)
+      pub closed_malformed : not r ≡ true → result_of Answer.Damaged z ≡ done z (open_zone z)
       closed_malformed = malformed m false closed a
 
-      pub closed_starts : not r ≡ false → {x : Answer} {h' : List ℕ} → outcome x h' ≡ start_in m (Opening.Trees (tree 0)) h → result x (zone h' w c t p) ≡ done z (open_zone z)
+      pub closed_starts : not r ≡ false → {x : Answer} {h' : List ℕ} → outcome x h' ≡ start_in m (Opening.Trees (tree 0)) h → result_of x (zone h' w c t p) ≡ done z (open_zone z)
       unfolding pick
       closed_starts q = open_starts m false closed (all_formed m false closed a q refl)
 
@@ -131,7 +131,7 @@ module _ (h w c t p : List ℕ) where
     abbrev refusals : Rules → Record → List Refusal
     refusals i x = unless (open_range i x) Answer.BadRecord ∷ on (not (open_step_sound i z x)) Answer.Damaged ∷ []
 
-    pub step_refused : {a : Answer} → checked_in h w c t p ≡ Checked.Refused a → result a z ≡ done z (open_step z r)
+    pub step_refused : {a : Answer} → checked_in h w c t p ≡ Checked.Refused a → result_of a z ≡ done z (open_step z r)
     unfolding open_step
     step_refused e = stores_nothing z (checked_refused h w c t p e (refusals (shape_of z) r) (open_act (shape_of z) z r))
 
@@ -145,11 +145,11 @@ module _ (h w c t p : List ℕ) where
           let k = checked_open h w c t p e in
           k.1 (refusals (shape_of z) r) (open_act (shape_of z) z r) ∙ ap₂ (λ (i : Rules) (y : Record). guarded (refusals i y) (open_act i z y)) k.0 q
 
-      pub step_out : passes (open_range g x) ≡ false → result Answer.BadRecord z ≡ done z (open_step z r)
+      pub step_out : passes (open_range g x) ≡ false → result_of Answer.BadRecord z ≡ done z (open_step z r)
       step_out b = stores_nothing z (step_open ∙ stands (unless (open_range g x) Answer.BadRecord) (on (not (open_step_sound g z x)) Answer.Damaged ∷ []) (open_act g z x) (ap not b))
 
     pub step_acts : {s : Shape} → checked_in h w c t p ≡ Checked.Zone s → {stage : Opening} → r ≡ Record.Open stage → {b : Bool} → b ≡ passes (opening_in (Shapes.shape_of s) stage) → b ≡ true → {a : Answer} {w' c' t' p' : List ℕ}
-        → result a (zone [] w' c' t' p') ≡ done (zone [] w c t p) (open_at (Shapes.shape_of s) (zone [] w c t p) stage) → result a (zone h w' c' t' p') ≡ done z (open_step z r)
+        → result_of a (zone [] w' c' t' p') ≡ done (zone [] w c t p) (open_at (Shapes.shape_of s) (zone [] w c t p) stage) → result_of a (zone h w' c' t' p') ≡ done z (open_step z r)
     unfolding open_range open_step_sound open_act
     step_acts {s} e {stage} q d b o =
         let x : Record = Record.Open stage in

@@ -1,5 +1,7 @@
 // Open: header running; where it was running, each child recounted; then trees get the sum of their children's counts, and CPUs become absent.
 // One store a step; the first makes all checks. Words and children are read and stored by the lower level alone.
+#![tactic(auto)]
+
 ghost use Rattle.std.specs.Prelude.{◌≡◌, [], ◌*◌, ◌-◌, ◌<◌, max, length};
 ghost use Rattle.laws.specs.Tests.{Passes};
 ghost use Rattle.laws.specs.Tables.{outcome};
@@ -9,7 +11,7 @@ ghost use Rattle.rules.specs.Open.{open_zone, open_step};
 ghost use Rattle.rules.specs.Step.{follow};
 ghost use Rattle.entries.specs.Sizes.{huge_of};
 ghost use Rattle.places.specs.Shapes.{shape_of};
-ghost use Rattle.calls.specs.Results.{zone, result, done, ran_to, checked, Fits, WentOn};
+ghost use Rattle.calls.specs.Results.{zone, result_of, done, ran_to, checked, Fits, WentOn};
 ghost use Rattle.opening.specs.Opens.{openable_in, start_in, open_at};
 
 use calls::{Checked, Ended, Next, Way};
@@ -19,7 +21,7 @@ use places::Shape;
 use rules::{Answer, Frame, Huge, Opening, Record, Tree};
 
 // A zone that was cut off, one that was closed, or the refusal.
-#[derive(Drop)]
+#[derive(Clone, Copy)]
 enum Openable {
     Cut(Size),
     Closed(Size),
@@ -28,7 +30,7 @@ enum Openable {
 
 // What open refuses first: 8 for the header slice, 9, 8.
 fn check(header: &[u64], words: usize, children: usize, trees: usize, cpus: usize) -> Openable
-    ensures* { λ r. ⌜ r ≡ openable_in header.now words children trees cpus ⌝ }
+    ensures { result ≡ openable_in header.now words children trees cpus }
 {
     match entries::zone_says(header) {
         Zoned::NoHeader => Openable::Refused(Answer::BadBuffers),
@@ -49,14 +51,14 @@ fn check(header: &[u64], words: usize, children: usize, trees: usize, cpus: usiz
 }
 
 fn opening(stage: Opening) -> Answer
-    ensures* { λ r. ⌜ r ≡ Answer.UnderWay (Record.Open stage) ⌝ }
+    ensures { result ≡ Answer.UnderWay (Record.Open stage) }
 {
     Answer::UnderWay(Record::Open(stage))
 }
 
 // The header says running before anything else is stored.
 fn start(header: &mut [u64], size: Size, stage: Opening) -> Answer
-    ensures* { λ r. ⌜ outcome r header.new ≡ start_in size stage header.old ⌝ }
+    ensures { outcome result header.new ≡ start_in size stage header.old }
 {
     match entries::store_running(header, size) {
         Stored::Stored => opening(stage),
@@ -72,7 +74,7 @@ pub fn open(
     trees: &[u16],
     cpus: &[u64],
 ) -> Answer
-    ensures* { λ r. ⌜ result r (zone header.new words.now children.now trees.now cpus.now) ≡ done (zone header.old words.now children.now trees.now cpus.now) (open_zone (zone header.old words.now children.now trees.now cpus.now)) ⌝ }
+    ensures { result_of result (zone header.new words.now children.now trees.now cpus.now) ≡ done (zone header.old words.now children.now trees.now cpus.now) (open_zone (zone header.old words.now children.now trees.now cpus.now)) }
 {
     match check(header, words.len(), children.len(), trees.len(), cpus.len()) {
         Openable::Refused(answer) => answer,
@@ -99,7 +101,7 @@ pub fn open(
 // A child with a clear gets the count of zero bits in its field; one with a set is stored as it stands.
 fn recount(words: &[u64], children: &mut [u16], shape: Shape, huge: Huge) -> Answer
     requires { (child_words * huge_of shape.size ≡ length words.now) × (huge_of shape.size ≡ length children.old) × (huge.0 < huge_of shape.size) }
-    ensures* { λ r. ⌜ result r (zone [] words.now children.new [] []) ≡ done (zone [] words.now children.old [] []) (open_at (shape_of shape) (zone [] words.now children.old [] []) (Opening.Children huge)) ⌝ }
+    ensures { result_of result (zone [] words.now children.new [] []) ≡ done (zone [] words.now children.old [] []) (open_at (shape_of shape) (zone [] words.now children.old [] []) (Opening.Children huge)) }
 {
     match lower::store_recount(children, words, huge.0 as usize) {
         Recounted::Stored => {
@@ -117,7 +119,7 @@ fn recount(words: &[u64], children: &mut [u16], shape: Shape, huge: Huge) -> Ans
 // A tree gets the sum of its children's counts, with r clear.
 fn add_up(children: &[u16], trees: &mut [u16], shape: Shape, tree: Tree) -> Answer
     requires { (huge_of shape.size ≡ length children.now) × (trees_of (shape_of shape) ≡ length trees.old) × (tree.0 < trees_of (shape_of shape)) }
-    ensures* { λ r. ⌜ result r (zone [] [] children.now trees.new []) ≡ done (zone [] [] children.now trees.old []) (open_at (shape_of shape) (zone [] [] children.now trees.old []) (Opening.Trees tree)) ⌝ }
+    ensures { result_of result (zone [] [] children.now trees.new []) ≡ done (zone [] [] children.now trees.old []) (open_at (shape_of shape) (zone [] [] children.now trees.old []) (Opening.Trees tree)) }
 {
     if !looks::part_formed(children, shape, tree) {
         return Answer::Damaged;
@@ -142,7 +144,7 @@ fn add_up(children: &[u16], trees: &mut [u16], shape: Shape, tree: Tree) -> Answ
 // A CPU becomes absent; the last one ends the open.
 fn forget(cpus: &mut [u64], shape: Shape, cpu: u8) -> Answer
     requires { (shape.cpus ≡ length cpus.old) × (cpu < shape.cpus) × (shape.cpus < 255) }
-    ensures* { λ r. ⌜ result r (zone [] [] [] [] cpus.new) ≡ done (zone [] [] [] [] cpus.old) (open_at (shape_of shape) (zone [] [] [] [] cpus.old) (Opening.Cpus cpu)) ⌝ }
+    ensures { result_of result (zone [] [] [] [] cpus.new) ≡ done (zone [] [] [] [] cpus.old) (open_at (shape_of shape) (zone [] [] [] [] cpus.old) (Opening.Cpus cpu)) }
 {
     match cpu_entries::store_absent(cpus, cpu as usize) {
         Stored::Stored => {
@@ -164,7 +166,7 @@ fn open_stage(
     stage: Opening,
 ) -> Answer
     requires { Fits shape words.now children.old trees.old cpus.old × Passes (opening_in (shape_of shape) stage) }
-    ensures* { λ r. ⌜ result r (zone [] words.now children.new trees.new cpus.new) ≡ done (zone [] words.now children.old trees.old cpus.old) (open_at (shape_of shape) (zone [] words.now children.old trees.old cpus.old) stage) ⌝ }
+    ensures { result_of result (zone [] words.now children.new trees.new cpus.new) ≡ done (zone [] words.now children.old trees.old cpus.old) (open_at (shape_of shape) (zone [] words.now children.old trees.old cpus.old) stage) }
 {
     match stage {
         Opening::Children(huge) => recount(words, children, shape, huge),
@@ -182,7 +184,7 @@ pub fn open_step(
     cpus: &mut [u64],
     rec: Record,
 ) -> Answer
-    ensures* { λ r. ⌜ result r (zone header.now words.now children.new trees.new cpus.new) ≡ done (zone header.now words.now children.old trees.old cpus.old) (open_step (zone header.now words.now children.old trees.old cpus.old) rec) ⌝ }
+    ensures { result_of result (zone header.now words.now children.new trees.new cpus.new) ≡ done (zone header.now words.now children.old trees.old cpus.old) (open_step (zone header.now words.now children.old trees.old cpus.old) rec) }
 {
     match calls::check(header, words.len(), children.len(), trees.len(), cpus.len()) {
         Checked::Refused(answer) => answer,
@@ -215,7 +217,7 @@ fn recount_on(
     fuel: u64,
 ) -> Way
     requires { (checked header.now (length words.now) (length children.old) (length trees.now) (length cpus.now) ≡ Checked.Zone shape) × (first.0 < huge_of shape.size) }
-    ensures* { λ r. ⌜ WentOn open_step fuel 0 (Record.Open (Opening.Children first)) r (zone header.now words.now children.new trees.now cpus.now) (zone header.now words.now children.old trees.now cpus.now) ⌝ }
+    ensures { WentOn open_step fuel 0 (Record.Open (Opening.Children first)) result (zone header.now words.now children.new trees.now cpus.now) (zone header.now words.now children.old trees.now cpus.now) }
 {
     let huge = entries::huge_frames(shape.size);
     let mut at = first.0;
@@ -258,7 +260,7 @@ fn way(
     rec: Record,
     fuel: u64,
 ) -> Way
-    ensures* { λ r. ⌜ WentOn open_step fuel 0 rec r (zone header.now words.now children.new trees.now cpus.now) (zone header.now words.now children.old trees.now cpus.now) ⌝ }
+    ensures { WentOn open_step fuel 0 rec result (zone header.now words.now children.new trees.now cpus.now) (zone header.now words.now children.old trees.now cpus.now) }
 {
     if let Record::Open(stage) = rec {
         if let Opening::Children(first) = stage {
@@ -289,7 +291,7 @@ fn step_on(
     made: u64,
     fuel: u64,
 ) -> Ended
-    ensures* { λ r. ⌜ ran_to r (zone header.now words.now children.new trees.new cpus.new) ≡ follow open_step (fuel - made) made (Answer.UnderWay rec) (zone header.now words.now children.old trees.old cpus.old) ⌝ }
+    ensures { ran_to result (zone header.now words.now children.new trees.new cpus.new) ≡ follow open_step (fuel - made) made (Answer.UnderWay rec) (zone header.now words.now children.old trees.old cpus.old) }
 {
     let mut at = rec;
     let mut steps = made;
@@ -322,7 +324,7 @@ pub fn run(
     rec: Record,
     fuel: u64,
 ) -> Ended
-    ensures* { λ r. ⌜ ran_to r (zone header.now words.now children.new trees.new cpus.new) ≡ follow open_step (max 1 fuel) 0 (Answer.UnderWay rec) (zone header.now words.now children.old trees.old cpus.old) ⌝ }
+    ensures { ran_to result (zone header.now words.now children.new trees.new cpus.new) ≡ follow open_step (max 1 fuel) 0 (Answer.UnderWay rec) (zone header.now words.now children.old trees.old cpus.old) }
 {
     let most = calls::at_least_one(fuel);
     match way(header, words, children, trees, cpus, rec, most) {

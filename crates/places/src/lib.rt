@@ -1,4 +1,6 @@
 // What a record may hold, and the next place of a get. Nothing here looks at a table.
+#![tactic(auto)]
+
 ghost use Rattle.std.specs.Prelude.{◌≡◌, ◌++◌, suc, ◌^◌, ◌<◌, ltb};
 ghost use Rattle.rules.specs.Numbers.{trees_of};
 ghost use Rattle.rules.specs.Conversions.{tree as tree_number};
@@ -22,7 +24,7 @@ const TREE_CHILDREN: u32 = 32;
 const NEAR_TREES: u32 = 32;
 
 // A zone's size, and the entries of its CPU table.
-#[derive(Drop)]
+#[derive(Clone, Copy)]
 pub struct Shape {
     pub size: Size,
     pub cpus: u8,
@@ -64,7 +66,7 @@ fn tree_in(shape: Shape, tree: Tree) -> bool
     tree.0 < entries::trees_of(shape.size)
 }
 
-fn hand_in_lem(shape: Shape, tree: Tree, hand: u16) -> bool
+fn hand_in(shape: Shape, tree: Tree, hand: u16) -> bool
     ensures { result ≡ passes (hand_in (shape_of shape) tree hand) }
 {
     hand <= entries::capacity_of(shape.size, tree)
@@ -98,7 +100,7 @@ fn run_in(shape: Shape, run: Run, first: Frame) -> bool
     false
 }
 
-fn block_in_lem(shape: Shape, block: Block) -> bool
+fn block_in(shape: Shape, block: Block) -> bool
     ensures { result ≡ passes (block_in (shape_of shape) block) }
 {
     match block {
@@ -141,7 +143,7 @@ fn steal_in(shape: Shape, cpu: u8, from: u8) -> bool
     from != cpu
 }
 
-fn found_in_lem(shape: Shape, cpu: u8, found: Found) -> bool
+fn found_in(shape: Shape, cpu: u8, found: Found) -> bool
     ensures { result ≡ passes (found_in (shape_of shape) cpu found) }
 {
     match found {
@@ -160,7 +162,7 @@ fn place_in(shape: Shape, cpu: u8, place: Place) -> bool
 {
     match place {
         Place::Own(tree) => tree_in(shape, tree),
-        Place::Found(found) => found_in_lem(shape, cpu, found),
+        Place::Found(found) => found_in(shape, cpu, found),
     }
 }
 
@@ -168,7 +170,7 @@ fn tree_hand_in(shape: Shape, tree: Tree, hand: u16) -> bool
     ensures { result ≡ passes (tree_in (shape_of shape) tree ++ hand_in (shape_of shape) tree hand) }
 {
     if tree_in(shape, tree) {
-        return hand_in_lem(shape, tree, hand);
+        return hand_in(shape, tree, hand);
     }
     false
 }
@@ -176,8 +178,8 @@ fn tree_hand_in(shape: Shape, tree: Tree, hand: u16) -> bool
 fn found_hand_in(shape: Shape, cpu: u8, found: Found, hand: u16) -> bool
     ensures { result ≡ passes (found_in (shape_of shape) cpu found ++ hand_in (shape_of shape) (found_tree found) hand) }
 {
-    if found_in_lem(shape, cpu, found) {
-        return hand_in_lem(shape, found_tree(found), hand);
+    if found_in(shape, cpu, found) {
+        return hand_in(shape, found_tree(found), hand);
     }
     false
 }
@@ -186,7 +188,7 @@ fn place_hand_in(shape: Shape, cpu: u8, place: Place, hand: u16) -> bool
     ensures { result ≡ passes (place_in (shape_of shape) cpu place ++ hand_in (shape_of shape) (place_tree place) hand) }
 {
     if place_in(shape, cpu, place) {
-        return hand_in_lem(shape, place_tree(place), hand);
+        return hand_in(shape, place_tree(place), hand);
     }
     false
 }
@@ -264,7 +266,7 @@ pub fn taking_in(shape: Shape, cpu: u8, stage: Taking) -> bool
             start,
             child,
         } => search_in(shape, cpu, place, start, child),
-        Taking::Last(block) => block_in_lem(shape, block),
+        Taking::Last(block) => block_in(shape, block),
         Taking::Fail { order: _, place } => place_in(shape, cpu, place),
         Taking::NoRoom => true,
     }
@@ -274,10 +276,10 @@ pub fn giving_in(shape: Shape, stage: Giving) -> bool
     ensures { result ≡ passes (giving_in (shape_of shape) stage) }
 {
     match stage {
-        Giving::Clear(block) => block_in_lem(shape, block),
+        Giving::Clear(block) => block_in(shape, block),
         Giving::Raise { run, first } => run_in(shape, run, first),
-        Giving::ToEntry(block) => block_in_lem(shape, block),
-        Giving::ToTree(block) => block_in_lem(shape, block),
+        Giving::ToEntry(block) => block_in(shape, block),
+        Giving::ToTree(block) => block_in(shape, block),
     }
 }
 
@@ -306,7 +308,7 @@ pub fn opening_in(shape: Shape, stage: Opening) -> bool
 // ---- blocks
 
 // The tree and the child that a block lies in; nowhere, outside the zone.
-#[derive(Drop)]
+#[derive(Clone, Copy)]
 pub enum BlockAt {
     At { tree: Tree, child: u8 },
     Nowhere,
@@ -326,7 +328,7 @@ fn huge_number(shape: Shape, block: Block) -> u32
 pub fn block_at(shape: Shape, block: Block) -> BlockAt
     ensures { result ≡ block_at_in (shape_of shape) block }
 {
-    if block_in_lem(shape, block) {
+    if block_in(shape, block) {
         let huge = huge_number(shape, block);
         return BlockAt::At {
             tree: Tree((huge / TREE_CHILDREN) as u16),

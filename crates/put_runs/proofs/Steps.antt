@@ -38,7 +38,7 @@ use Rattle.word_stages.proofs.Rules.{cleared_there, run_fits}
 use Rattle.upper.proofs.Arms.{given_back, put_cpu, put_tree, put_child, put_word}
 use Rattle.upper.proofs.Stepped.{step_refused, step_out, step_acts, cpu_out, stage_out}
 use Rattle.upper.proofs.Runs.{stays, went, goes}
-use Rattle.calls.specs.Results.{zone, Result, result, done, Fits, Opened, way_by, way_of, went_to, WentOn}
+use Rattle.calls.specs.Results.{zone, Result, result_of, done, Fits, Opened, way_by, way_of, went_to, WentOn}
 use Rattle.calls.proofs.Opened.{checked_in, checked_open}
 use Rattle.put_runs.specs.Types.{Frame, Huge, Tree, Run, Block, Gave, Giving, Record, CpuEntry, Answer, Given, Added, Held, Shape, Checked, Way}
 use Rattle.put_runs.specs.Stands.{steps_to_entry, ends_with, LiesAt}
@@ -66,7 +66,7 @@ module _ {s : Shape} {cpu : ℕ} {h w c t p : List ℕ} (o : Opened s cpu h w c 
   z = zone h w c t p
 
   -- its block is outside the zone: 11
-  put_out : passes (block_in g (given_back x)) ≡ false → Steps z (Record.Put cpu x) (result Answer.BadRecord z)
+  put_out : passes (block_in g (given_back x)) ≡ false → Steps z (Record.Put cpu x) (result_of Answer.BadRecord z)
   unfolding step_range
   put_out b = record { says = step_out h w c t p (Record.Put cpu x) o.checks refl (stage_out s.cpus cpu (giving_in g x) refl (ap passes (given_range g x) ∙ b)) }
 
@@ -75,7 +75,7 @@ module _ {s : Shape} {cpu : ℕ} {h w c t p : List ℕ} (o : Opened s cpu h w c 
   InRange = Fits s w c t p × Passes (cpu_in g cpu ++ giving_in g x)
 
   -- a stage with a table back in the zone as F puts it: its block is outside the zone, or all is in range
-  by_range : (F : Outcome Answer → Result) (f : List ℕ → Outcome Answer) (l : List ℕ) {y : Outcome Answer} → F (outcome Answer.BadRecord l) ≡ result Answer.BadRecord z → (InRange → Steps z (Record.Put cpu x) (F y))
+  by_range : (F : Outcome Answer → Result) (f : List ℕ → Outcome Answer) (l : List ℕ) {y : Outcome Answer} → F (outcome Answer.BadRecord l) ≡ result_of Answer.BadRecord z → (InRange → Steps z (Record.Put cpu x) (F y))
       → y ≡ ranged g (given_back x) f l → Steps z (Record.Put cpu x) (F y)
   unfolding ranged
   by_range F f l {y} k q e = go (passes (block_in g (given_back x))) refl
@@ -87,50 +87,50 @@ module _ {s : Shape} {cpu : ℕ} {h w c t p : List ℕ} (o : Opened s cpu h w c 
   -- by the table that the step's entry stands in
   module _ {r : Answer} {m : List ℕ} where
     cpu_steps : {j : ℕ} {a : Made CpuEntry} {f : Tree → ℕ → ℕ → Made CpuEntry} → give g cpu x ≡ cpu_entry j a f → outcome r m ≡ ranged g (given_back x) (in_cpus g (give g cpu x)) p
-        → Steps z (Record.Put cpu x) (result r (zone h w c t m))
+        → Steps z (Record.Put cpu x) (result_of r (zone h w c t m))
     unfolding step_range act
-    cpu_steps q e = by_range (λ y. result y.said (zone h w c t y.table)) (in_cpus g (give g cpu x)) p refl (λ k. record { says = step_acts h w c t p _ o.checks refl k.1 (put_cpu cpu x k refl q e) }) e
+    cpu_steps q e = by_range (λ y. result_of y.said (zone h w c t y.table)) (in_cpus g (give g cpu x)) p refl (λ k. record { says = step_acts h w c t p _ o.checks refl k.1 (put_cpu cpu x k refl q e) }) e
 
     tree_steps : {u : Tree} {f : ℕ → ℕ → Made Tally} → give g cpu x ≡ tree_entry u f → outcome r m ≡ ranged g (given_back x) (in_trees g (give g cpu x)) t
-        → Steps z (Record.Put cpu x) (result r (zone h w c m p))
+        → Steps z (Record.Put cpu x) (result_of r (zone h w c m p))
     unfolding step_range act
-    tree_steps q e = by_range (λ y. result y.said (zone h w c y.table p)) (in_trees g (give g cpu x)) t refl (λ k. record { says = step_acts h w c t p _ o.checks refl k.1 (put_tree cpu x k refl q e) }) e
+    tree_steps q e = by_range (λ y. result_of y.said (zone h w c y.table p)) (in_trees g (give g cpu x)) t refl (λ k. record { says = step_acts h w c t p _ o.checks refl k.1 (put_tree cpu x k refl q e) }) e
 
     child_steps_lem : {u : Tree} {i : ℕ} {f : ℕ → Made ℕ} → give g cpu x ≡ child_entry u i f → outcome r m ≡ ranged g (given_back x) (in_children g (give g cpu x)) c
-        → Steps z (Record.Put cpu x) (result r (zone h w m t p))
+        → Steps z (Record.Put cpu x) (result_of r (zone h w m t p))
     unfolding step_range act
-    child_steps_lem q e = by_range (λ y. result y.said (zone h w y.table t p)) (in_children g (give g cpu x)) c refl (λ k. record { says = step_acts h w c t p _ o.checks refl k.1 (put_child cpu x k refl q e) }) e
+    child_steps_lem q e = by_range (λ y. result_of y.said (zone h w y.table t p)) (in_children g (give g cpu x)) c refl (λ k. record { says = step_acts h w c t p _ o.checks refl k.1 (put_child cpu x k refl q e) }) e
 
     word_steps : {u : Tree} {i : ℕ} {f : ℕ → Made ℕ} → give g cpu x ≡ word_entry u i f → outcome r m ≡ ranged g (given_back x) (in_words g (give g cpu x)) w
-        → Steps z (Record.Put cpu x) (result r (zone h m c t p))
+        → Steps z (Record.Put cpu x) (result_of r (zone h m c t p))
     unfolding step_range act
-    word_steps q e = by_range (λ y. result y.said (zone h y.table c t p)) (in_words g (give g cpu x)) w refl (λ k. record { says = step_acts h w c t p _ o.checks refl k.1 (put_word cpu x k refl q e) }) e
+    word_steps q e = by_range (λ y. result_of y.said (zone h y.table c t p)) (in_words g (give g cpu x)) w refl (λ k. record { says = step_acts h w c t p _ o.checks refl k.1 (put_word cpu x k refl q e) }) e
 
 -- ---- the stages, from what the low level says
 
 module _ {s : Shape} {cpu : ℕ} {h w c t p : List ℕ} (o : Opened s cpu h w c t p) {r : Answer} {m : List ℕ} {u : Tree} {i : ℕ} where
   pub to_tree_step : {b : Block} {n : ℕ} {a : Added} → LiesAt s b u i → n ≡ size_of b → outcome a m ≡ add_count_in s.size u n t
-      → r ≡ added_answer (Answer.Done (first_of b)) a → Steps (zone h w c t p) (Record.Put cpu (Giving.ToTree b)) (result r (zone h w c m p))
+      → r ≡ added_answer (Answer.Done (first_of b)) a → Steps (zone h w c t p) (Record.Put cpu (Giving.ToTree b)) (result_of r (zone h w c m p))
   unfolding give
   to_tree_step {b} {n} q f d a = tree_steps o (Giving.ToTree b) refl (to_tree_rule s cpu b t u i refl q refl n f d a)
 
   pub to_entry_step : {b : Block} {n : ℕ} {a : Held} → LiesAt s b u i → n ≡ size_of b → outcome a m ≡ add_own_in s.size cpu u n p
-      → r ≡ held_answer (Answer.Done (first_of b)) (Answer.UnderWay (Record.Put cpu (Giving.ToTree b))) a → Steps (zone h w c t p) (Record.Put cpu (Giving.ToEntry b)) (result r (zone h w c t m))
+      → r ≡ held_answer (Answer.Done (first_of b)) (Answer.UnderWay (Record.Put cpu (Giving.ToTree b))) a → Steps (zone h w c t p) (Record.Put cpu (Giving.ToEntry b)) (result_of r (zone h w c t m))
   unfolding give
   to_entry_step {b} {n} q f d a = cpu_steps o (Giving.ToEntry b) refl (to_entry_rule s cpu b p u i refl q refl n f refl d a)
 
   pub raise_step : {v : Run} {f : Frame} {n : ℕ} {a : Given} → LiesAt s (Block.Run v f) u i → n ≡ run_size v → outcome a m ≡ lent_children (shape_of s) u Given.NoChild (λ l. give_in n l i) c
-      → r ≡ given_answer (Answer.UnderWay (Record.Put cpu (Giving.ToEntry (Block.Run v f)))) a → Steps (zone h w c t p) (Record.Put cpu (Giving.Raise v f)) (result r (zone h w m t p))
+      → r ≡ given_answer (Answer.UnderWay (Record.Put cpu (Giving.ToEntry (Block.Run v f)))) a → Steps (zone h w c t p) (Record.Put cpu (Giving.Raise v f)) (result_of r (zone h w m t p))
   unfolding give in_children
   raise_step {v} {f} q n d a = child_steps_lem o (Giving.Raise v f) refl (given_there (shape_of s) c (Block.Run v f) _ refl q _ plain a (give_count (run_size v)) (rw n at d) refl)
 
   pub clear_whole_step : {y : Huge} {a : Given} → LiesAt s (Block.Whole y) u i → outcome a m ≡ lent_children (shape_of s) u Given.NoChild (λ l. clear_huge_in l i) c
-      → r ≡ given_answer (Answer.UnderWay (Record.Put cpu (Giving.ToEntry (Block.Whole y)))) a → Steps (zone h w c t p) (Record.Put cpu (Giving.Clear (Block.Whole y))) (result r (zone h w m t p))
+      → r ≡ given_answer (Answer.UnderWay (Record.Put cpu (Giving.ToEntry (Block.Whole y)))) a → Steps (zone h w c t p) (Record.Put cpu (Giving.Clear (Block.Whole y))) (result_of r (zone h w m t p))
   unfolding give clear in_children
   clear_whole_step {y} q d a = child_steps_lem o (Giving.Clear (Block.Whole y)) refl (given_there (shape_of s) c (Block.Whole y) _ refl q _ (clears (Block.Whole y)) a clear_huge d refl)
 
   pub clear_run_step : {v : Run} {f : Frame} {a : Given} → LiesAt s (Block.Run v f) u i → outcome a m ≡ lent_words (shape_of s) u Given.NoChild (λ l. clear_run_in (run_size v) l i (word_of f) (bit_of f)) w
-      → r ≡ given_answer (Answer.UnderWay (Record.Put cpu (Giving.Raise v f))) a → Steps (zone h w c t p) (Record.Put cpu (Giving.Clear (Block.Run v f))) (result r (zone h m c t p))
+      → r ≡ given_answer (Answer.UnderWay (Record.Put cpu (Giving.Raise v f))) a → Steps (zone h w c t p) (Record.Put cpu (Giving.Clear (Block.Run v f))) (result_of r (zone h m c t p))
   unfolding give clear in_words
   clear_run_step {v} {f} q d a = word_steps o (Giving.Clear (Block.Run v f)) refl (cleared_there (shape_of s) w (Block.Run v f) _ refl q _ (clears (Block.Run v f)) a (run_size v) (bit_of f) (omega arith) (run_fits (shape_of s) v f refl q) d refl)
 
@@ -168,21 +168,21 @@ run_stands fuel r z q = ap (λ j. follow step (fuel - j) j (Answer.UnderWay r) z
 
 module _ {k : ℕ} {z z' : Zone} {r : Record} where
   -- the next step is refused
-  pub run_stays : (fuel : ℕ) (a : Answer) {n : ℕ} → Steps z r (result a z') → 2 ≤ number a → k ≡ n → WentOn step fuel k r (Way.Goes r n) z' z
+  pub run_stays : (fuel : ℕ) (a : Answer) {n : ℕ} → Steps z r (result_of a z') → 2 ≤ number a → k ≡ n → WentOn step fuel k r (Way.Goes r n) z' z
   run_stays fuel a {n} e q d = subst (λ y. WentOn step fuel k r (Way.Goes r n) y z) (sym (stays fuel k r z e.says q)) (run_stands fuel r z d)
 
   module _ {fuel : ℕ} (b : k < fuel) where
     -- as the answer says
-    pub run_answers : {a : Answer} {y : Way} → Steps z r (result a z') → y ≡ way_of a (k + 1) → WentOn step fuel k r y z' z
+    pub run_answers : {a : Answer} {y : Way} → Steps z r (result_of a z') → y ≡ way_of a (k + 1) → WentOn step fuel k r y z' z
     run_answers e q = went fuel k r z e.says b q
 
     -- to its end
-    pub run_ends : (x : Block) {n : ℕ} → Steps z r (result (Answer.Done (first_of x)) z') → n ≡ k + 1 → WentOn step fuel k r (ends_with x n) z' z
+    pub run_ends : (x : Block) {n : ℕ} → Steps z r (result_of (Answer.Done (first_of x)) z') → n ≡ k + 1 → WentOn step fuel k r (ends_with x n) z' z
     unfolding way_by
     run_ends x e q = run_answers e (ap (ends_with x) q)
 
     -- with the next record
-    pub run_follows : {x : Record} {y : Ran} → Steps z r (result (Answer.UnderWay x) z') → y ≡ follow step (fuel - (k + 1)) (k + 1) (Answer.UnderWay x) z' → y ≡ follow step (fuel - k) k (Answer.UnderWay r) z
+    pub run_follows : {x : Record} {y : Ran} → Steps z r (result_of (Answer.UnderWay x) z') → y ≡ follow step (fuel - (k + 1)) (k + 1) (Answer.UnderWay x) z' → y ≡ follow step (fuel - k) k (Answer.UnderWay r) z
     run_follows e d = d ∙ goes fuel k r z e.says b refl
 
 -- at most two steps lead to the entry
@@ -193,9 +193,9 @@ steps_few (Block.Whole h) e = omega arith
 -- ---- what a put that begins is refused for
 
 module _ {h w c t p : List ℕ} {cpu : ℕ} {x : Giving} where
-  pub refused : {a : Answer} → checked_in h w c t p ≡ Checked.Refused a → Steps (zone h w c t p) (Record.Put cpu x) (result a (zone h w c t p))
+  pub refused : {a : Answer} → checked_in h w c t p ≡ Checked.Refused a → Steps (zone h w c t p) (Record.Put cpu x) (result_of a (zone h w c t p))
   refused e = record { says = step_refused h w c t p (Record.Put cpu x) e }
 
-  pub no_cpu : {s : Shape} → checked_in h w c t p ≡ Checked.Zone s → s.cpus ≤ cpu → Steps (zone h w c t p) (Record.Put cpu x) (result Answer.BadRecord (zone h w c t p))
+  pub no_cpu : {s : Shape} → checked_in h w c t p ≡ Checked.Zone s → s.cpus ≤ cpu → Steps (zone h w c t p) (Record.Put cpu x) (result_of Answer.BadRecord (zone h w c t p))
   unfolding step_range
   no_cpu {s} e b = record { says = step_out h w c t p (Record.Put cpu x) e refl (cpu_out s.cpus cpu _ b) }

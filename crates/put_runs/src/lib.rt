@@ -1,5 +1,7 @@
 // A put from its first stage on, in one call: the clearing store, the child's count, the own entry or the tree.
 // A function answers where the put stands after the stages that it made; no answer and no record is made between the stages.
+#![tactic(auto)]
+
 ghost use Rattle.std.specs.Prelude.{◌≡◌, ◌+◌, ◌<◌};
 ghost use Rattle.rules.specs.Begin.{begin_put};
 ghost use Rattle.rules.specs.Step.{step, follow};
@@ -20,7 +22,7 @@ const WORD_BITS: u64 = 64;
 
 // Where a put stands: before a stage, or at its end, the block counted in the own entry or in its tree. Before a stage that is refused it stands still: a
 // refusal stores nothing, and the single step answers it.
-#[derive(Drop)]
+#[derive(Clone, Copy)]
 enum At {
     Clear,
     Raise,

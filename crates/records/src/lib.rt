@@ -1,4 +1,6 @@
 // A record as two words, one encoding a record; and an answer's number and frame. Numbers are bare here: this is where they leave the types.
+#![tactic(auto)]
+
 ghost use Rattle.std.specs.Prelude.{◌≡◌, [], ◌∷◌, ◌%◌, ◌^◌};
 ghost use Rattle.rules.specs.Begin.{order_number, order_of};
 ghost use Rattle.rules.specs.Answers.{number, frame_of};
@@ -59,7 +61,7 @@ pub fn frame_of(answer: Answer) -> u64
 
 // ---- the two words
 
-#[derive(Drop)]
+#[derive(Clone, Copy)]
 pub struct Words {
     pub first: u64,
     pub second: u64,
@@ -85,7 +87,7 @@ fn join_second(tree: u16, base: u16, hand: u16, from: u8) -> u64
     (tree as u64) << 48 | (base as u64) << 32 | (hand as u64) << 16 | (from as u64) << 8
 }
 
-#[derive(Drop)]
+#[derive(Clone, Copy)]
 struct Head {
     stage: u8,
     cpu: u8,
@@ -110,7 +112,7 @@ fn split_first(first: u64) -> Head
     }
 }
 
-#[derive(Drop)]
+#[derive(Clone, Copy)]
 struct Tail {
     tree: u16,
     base: u16,
@@ -139,7 +141,7 @@ fn short(second: u64) -> u32
 // ---- places and blocks, by numbers
 
 // Kind 1: the own tree; 2 to 5: the near, partial, free and last pass; 6: stolen. Where there is no place, 0.
-#[derive(Drop)]
+#[derive(Clone, Copy)]
 struct Spot {
     kind: u8,
     tree: u16,

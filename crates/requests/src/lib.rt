@@ -1,4 +1,6 @@
 // Request lines, read byte by byte. A line may come in pieces: what was read of it so far is a `Reading`.
+#![tactic(auto)]
+
 ghost use Rattle.std.specs.Prelude.{◌≡◌, drop};
 ghost use Rattle.requests.specs.Lines.{digit_in, zeros_after, value_after, number_after, letter_of, letter_read, space_after, whole_of, digits_read, read, ended_of, end_of};
 ghost use Rattle.requests.specs.Pieces.{scanned};
@@ -10,7 +12,7 @@ const NEWLINE: u8 = 10;
 const SPACE: u8 = 32;
 
 // What a line begins with: z, g, p.
-#[derive(Drop)]
+#[derive(Clone, Copy)]
 pub enum Kind {
     Zone,
     Get,
@@ -18,21 +20,21 @@ pub enum Kind {
 }
 
 // A number, and the zeros written before its first other digit. Past 64 bits a number counts as the largest.
-#[derive(Drop)]
+#[derive(Clone, Copy)]
 pub struct Number {
     pub zeros: u64,
     pub value: u64,
 }
 
 // The numbers of the line before the one that is read.
-#[derive(Drop)]
+#[derive(Clone, Copy)]
 pub enum Had {
     Nothing,
     One(Number),
     Two { first: Number, second: Number },
 }
 
-#[derive(Drop)]
+#[derive(Clone, Copy)]
 pub enum Reading {
     // Nothing of a line.
     Start,
@@ -51,7 +53,7 @@ pub enum Reading {
     },
 }
 
-#[derive(Drop)]
+#[derive(Clone, Copy)]
 pub enum Line {
     Zone { huge: Number, cpus: Number },
     Get { cpu: u64, order: u64 },
@@ -59,7 +61,7 @@ pub enum Line {
 }
 
 // A byte read: the line goes on, is whole, or has another form.
-#[derive(Drop)]
+#[derive(Clone, Copy)]
 pub enum Read {
     GoesOn(Reading),
     Whole(Line),
@@ -67,7 +69,7 @@ pub enum Read {
 }
 
 // A piece read: a whole line with the position after its newline; the piece's end, with what was read of a line; or a line of another form.
-#[derive(Drop)]
+#[derive(Clone, Copy)]
 pub enum Scanned {
     Whole { line: Line, next: usize },
     Piece(Reading),
@@ -75,14 +77,14 @@ pub enum Scanned {
 }
 
 // The input's end: between two lines, after a last line without a newline, or in a line of another form.
-#[derive(Drop)]
+#[derive(Clone, Copy)]
 pub enum Ended {
     Between,
     Whole(Line),
     Fails,
 }
 
-#[derive(Drop)]
+#[derive(Clone, Copy)]
 enum Digit {
     Is(u8),
     No,

@@ -1,4 +1,6 @@
 // Document 01's numbers, records and answers. What they mean is defined in specs/, and proved in proofs/.
+#![tactic(auto)]
+
 ghost use Rattle.std.specs.Prelude.{◌≡◌};
 ghost use Rattle.rules.specs.Numbers.{format1};
 ghost use Rattle.rules.specs.Conversions.{first_frame, huge_at, first_huge, tree_at};
@@ -7,24 +9,24 @@ ghost use Rattle.rules.specs.Begin.{run_of};
 
 // ---- numbers: a frame, a huge frame, a tree; none stands in for another
 
-#[derive(Drop)]
+#[derive(Clone, Copy)]
 pub struct Frame(pub u64);
 
-#[derive(Drop)]
+#[derive(Clone, Copy)]
 pub struct Huge(pub u32);
 
-#[derive(Drop)]
+#[derive(Clone, Copy)]
 pub struct Tree(pub u16);
 
 // The huge frame that a frame lies in; nowhere, where the number passes every huge frame's.
-#[derive(Drop)]
+#[derive(Clone, Copy)]
 pub enum HugeAt {
     At(Huge),
     Nowhere,
 }
 
 // The tree that a huge frame belongs to; nowhere, where the number passes every tree's.
-#[derive(Drop)]
+#[derive(Clone, Copy)]
 pub enum TreeAt {
     At(Tree),
     Nowhere,
@@ -69,7 +71,7 @@ pub fn tree_of(huge: Huge) -> TreeAt
 // ---- orders and blocks
 
 // Orders 0 to 6: one base frame, or a run of 2 to 64, naturally aligned, in one word.
-#[derive(Drop)]
+#[derive(Clone, Copy)]
 pub enum Run {
     One,
     Two,
@@ -124,14 +126,14 @@ pub fn run_of(order: u64) -> Run
     }
 }
 
-#[derive(Drop)]
+#[derive(Clone, Copy)]
 pub enum Order {
     Run(Run),
     Nine,
 }
 
 // A run is named by its first frame, a block of order 9 by its huge frame.
-#[derive(Drop)]
+#[derive(Clone, Copy)]
 pub enum Block {
     Run { run: Run, first: Frame },
     Whole(Huge),
@@ -139,7 +141,7 @@ pub enum Block {
 
 // ---- what packed entries say
 
-#[derive(Drop)]
+#[derive(Clone, Copy)]
 pub enum Header {
     Malformed,
     Running { huge: u32 },
@@ -147,20 +149,20 @@ pub enum Header {
 }
 
 // A child with a clear and its count, or with a set.
-#[derive(Drop)]
+#[derive(Clone, Copy)]
 pub enum ChildEntry {
     Damaged,
     Counts(u16),
     Flagged,
 }
 
-#[derive(Drop)]
+#[derive(Clone, Copy)]
 pub enum TreeEntry {
     Damaged,
     Counts { reserved: u16, count: u16 },
 }
 
-#[derive(Drop)]
+#[derive(Clone, Copy)]
 pub enum CpuEntry {
     Damaged,
     Absent,
@@ -170,7 +172,7 @@ pub enum CpuEntry {
 // ---- what a step of the lower level says
 
 // A claim on a child, or the taking of a huge frame.
-#[derive(Drop)]
+#[derive(Clone, Copy)]
 pub enum Took {
     Taken,
     Passed,
@@ -178,14 +180,14 @@ pub enum Took {
 }
 
 // The taking of a word's lowest free run: its first bit.
-#[derive(Drop)]
+#[derive(Clone, Copy)]
 pub enum Bit {
     At(u8),
     Full,
 }
 
 // A count given back, or a block cleared.
-#[derive(Drop)]
+#[derive(Clone, Copy)]
 pub enum Gave {
     Given,
     NotTaken,
@@ -194,7 +196,7 @@ pub enum Gave {
 
 // ---- places (rules 3, 4 and 7)
 
-#[derive(Drop)]
+#[derive(Clone, Copy)]
 pub enum Pass {
     Near { tree: Tree, base: Tree },
     Partial(Tree),
@@ -203,13 +205,13 @@ pub enum Pass {
 }
 
 // A tree that a pass has taken, or one that was stolen from a CPU.
-#[derive(Drop)]
+#[derive(Clone, Copy)]
 pub enum Found {
     Pass(Pass),
     Steal { from: u8, tree: Tree },
 }
 
-#[derive(Drop)]
+#[derive(Clone, Copy)]
 pub enum Place {
     Own(Tree),
     Found(Found),
@@ -217,7 +219,7 @@ pub enum Place {
 
 // ---- operation records: one variant a stage, with what that stage needs
 
-#[derive(Drop)]
+#[derive(Clone, Copy)]
 pub enum Taking {
     // Rule 1.
     Own(Order),
@@ -301,7 +303,7 @@ pub enum Taking {
     NoRoom,
 }
 
-#[derive(Drop)]
+#[derive(Clone, Copy)]
 pub enum Giving {
     Clear(Block),
     Raise { run: Run, first: Frame },
@@ -309,7 +311,7 @@ pub enum Giving {
     ToTree(Block),
 }
 
-#[derive(Drop)]
+#[derive(Clone, Copy)]
 pub enum Creating {
     Words(u32),
     Children(Huge),
@@ -318,14 +320,14 @@ pub enum Creating {
     Header,
 }
 
-#[derive(Drop)]
+#[derive(Clone, Copy)]
 pub enum Opening {
     Children(Huge),
     Trees(Tree),
     Cpus(u8),
 }
 
-#[derive(Drop)]
+#[derive(Clone, Copy)]
 pub enum Record {
     Finished,
     Get { cpu: u8, stage: Taking },
@@ -336,7 +338,7 @@ pub enum Record {
 
 // ---- answers: one variant a number of document 01
 
-#[derive(Drop)]
+#[derive(Clone, Copy)]
 pub enum Answer {
     Done(Frame),
     UnderWay(Record),

@@ -1,4 +1,6 @@
 // Runs of gets and puts. A run from a first stage goes on as far as the shorter ways lead; what is left is made by single steps.
+#![tactic(auto)]
+
 ghost use Rattle.std.specs.Prelude.{◌≡◌, ◌-◌, max};
 ghost use Rattle.rules.specs.Step.{step, runs, follow};
 ghost use Rattle.calls.specs.Results.{zone, ran_to, WentOn};

@@ -1,1 +1,2 @@
 // No function: a long session, computed.
+#![tactic(auto)]

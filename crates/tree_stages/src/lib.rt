@@ -1,5 +1,7 @@
 // The stages of a get and a put on trees: each reads one entry, stores one at most, and answers.
 // A number that the table has not is answered 11.
+#![tactic(auto)]
+
 ghost use Rattle.std.specs.Prelude.{◌≡◌};
 ghost use Rattle.laws.specs.Tables.{outcome};
 ghost use Rattle.rules.specs.Take.{take};

@@ -29,7 +29,7 @@ use Rattle.tree_stages.specs.Tables.{in_trees}
 use Rattle.child_stages.specs.Tables.{in_children}
 use Rattle.word_stages.specs.Tables.{in_words, eighth}
 use Rattle.upper.specs.Types.{Tree, Order, Giving, CpuEntry, Answer, Shape}
-use Rattle.calls.specs.Results.{zone, Result, result, done, Fits}
+use Rattle.calls.specs.Results.{zone, Result, result_of, done, Fits}
 use Rattle.upper.proofs.Carried.{with_cpus, with_trees, with_children, with_words, cpu_carried, tree_carried, child_carried, word_carried}
 
 -- the entry that a step reads is one of the zone's
@@ -137,7 +137,7 @@ module _ {s : Shape} {ws cs ts ps : List ℕ} (fit : Fits s ws cs ts ps) (t : �
 
 -- st is the step, y the one that the stage speaks of
 module _ {s : Shape} {z : Zone} {st y : Step} (h : Ready s z st) (e : st ≡ y) {r : Answer} where
-  arm_none : y ≡ no_entry r → Carries s z st (result r z)
+  arm_none : y ≡ no_entry r → Carries s z st (result_of r z)
   unfolding carried stored
   arm_none q = rw (e, q) refl
 
@@ -164,29 +164,29 @@ module _ {s : Shape} {ws cs ts ps : List ℕ} (cpu : ℕ) (stage : Taking) (h : 
   take_ready : Ready s (zone [] ws cs ts ps) (take (shape_of s) cpu stage)
   take_ready = record { fit = h.0; stands = take_stands s cpu stage h.1 }
 
-  pub get_none : {r : Answer} {x : Taking} → stage ≡ x → take (shape_of s) cpu x ≡ no_entry r → Carries s (zone [] ws cs ts ps) (take (shape_of s) cpu stage) (result r (zone [] ws cs ts ps))
+  pub get_none : {r : Answer} {x : Taking} → stage ≡ x → take (shape_of s) cpu x ≡ no_entry r → Carries s (zone [] ws cs ts ps) (take (shape_of s) cpu stage) (result_of r (zone [] ws cs ts ps))
   get_none e q = arm_none take_ready (ap (take (shape_of s) cpu) e) q
 
   module _ {r : Answer} {m : List ℕ} where
     pub get_cpu : {x : Taking} {j : ℕ} {a : Made CpuEntry} {f : Tree → ℕ → ℕ → Made CpuEntry} → stage ≡ x → take (shape_of s) cpu x ≡ cpu_entry j a f → outcome r m ≡ in_cpus (shape_of s) (take (shape_of s) cpu x) ps
-        → Carries s (zone [] ws cs ts ps) (take (shape_of s) cpu stage) (result r (zone [] ws cs ts m))
+        → Carries s (zone [] ws cs ts ps) (take (shape_of s) cpu stage) (result_of r (zone [] ws cs ts m))
     get_cpu e q o = arm_cpu take_ready (ap (take (shape_of s) cpu) e) q o
 
     pub get_tree : {x : Taking} {t : Tree} {f : ℕ → ℕ → Made Tally} → stage ≡ x → take (shape_of s) cpu x ≡ tree_entry t f → outcome r m ≡ in_trees (shape_of s) (take (shape_of s) cpu x) ts
-        → Carries s (zone [] ws cs ts ps) (take (shape_of s) cpu stage) (result r (zone [] ws cs m ps))
+        → Carries s (zone [] ws cs ts ps) (take (shape_of s) cpu stage) (result_of r (zone [] ws cs m ps))
     get_tree e q o = arm_tree take_ready (ap (take (shape_of s) cpu) e) q o
 
     pub get_child : {x : Taking} {t : Tree} {i : ℕ} {f : ℕ → Made ℕ} → stage ≡ x → take (shape_of s) cpu x ≡ child_entry t i f → outcome r m ≡ in_children (shape_of s) (take (shape_of s) cpu x) cs
-        → Carries s (zone [] ws cs ts ps) (take (shape_of s) cpu stage) (result r (zone [] ws m ts ps))
+        → Carries s (zone [] ws cs ts ps) (take (shape_of s) cpu stage) (result_of r (zone [] ws m ts ps))
     get_child e q o = arm_child take_ready (ap (take (shape_of s) cpu) e) q o
 
     pub get_word : {v : Run} {p : Place} {i k w : ℕ} → stage ≡ Taking.Word v p i k w → outcome r m ≡ eighth w (in_words (shape_of s) (take (shape_of s) cpu (Taking.Word v p i k w))) ws
-        → Carries s (zone [] ws cs ts ps) (take (shape_of s) cpu stage) (result r (zone [] m cs ts ps))
+        → Carries s (zone [] ws cs ts ps) (take (shape_of s) cpu stage) (result_of r (zone [] m cs ts ps))
     unfolding take
     get_word {v} {p} {i} {k} {w} e o = arm_word take_ready (ap (take (shape_of s) cpu) e) refl (o ∙ word_in s _ _ cpu v p i k w (rw e at h.1.1))
 
     pub get_last : {b : Block} → stage ≡ Taking.Last b → outcome r m ≡ ranged (shape_of s) b (in_cpus (shape_of s) (take (shape_of s) cpu (Taking.Last b))) ps
-        → Carries s (zone [] ws cs ts ps) (take (shape_of s) cpu stage) (result r (zone [] ws cs ts m))
+        → Carries s (zone [] ws cs ts ps) (take (shape_of s) cpu stage) (result_of r (zone [] ws cs ts m))
     unfolding take taking_in
     get_last {b} e o = get_cpu e refl (o ∙ block_in_lem s _ _ b (subst (λ x. Passes (taking_in (shape_of s) cpu x)) e h.1.1))
 
@@ -198,17 +198,17 @@ module _ {s : Shape} {ws cs ts ps : List ℕ} (cpu : ℕ) (stage : Giving) (h : 
 
   module _ {x : Giving} (e : stage ≡ x) {r : Answer} {m : List ℕ} where
     pub put_cpu : {j : ℕ} {a : Made CpuEntry} {f : Tree → ℕ → ℕ → Made CpuEntry} → give (shape_of s) cpu x ≡ cpu_entry j a f → outcome r m ≡ ranged (shape_of s) (given_back x) (in_cpus (shape_of s) (give (shape_of s) cpu x)) ps
-        → Carries s (zone [] ws cs ts ps) (give (shape_of s) cpu stage) (result r (zone [] ws cs ts m))
+        → Carries s (zone [] ws cs ts ps) (give (shape_of s) cpu stage) (result_of r (zone [] ws cs ts m))
     put_cpu q o = arm_cpu give_ready (ap (give (shape_of s) cpu) e) q (o ∙ given_in s _ _ x (rw e at h.1.1))
 
     pub put_tree : {t : Tree} {f : ℕ → ℕ → Made Tally} → give (shape_of s) cpu x ≡ tree_entry t f → outcome r m ≡ ranged (shape_of s) (given_back x) (in_trees (shape_of s) (give (shape_of s) cpu x)) ts
-        → Carries s (zone [] ws cs ts ps) (give (shape_of s) cpu stage) (result r (zone [] ws cs m ps))
+        → Carries s (zone [] ws cs ts ps) (give (shape_of s) cpu stage) (result_of r (zone [] ws cs m ps))
     put_tree q o = arm_tree give_ready (ap (give (shape_of s) cpu) e) q (o ∙ given_in s _ _ x (rw e at h.1.1))
 
     pub put_child : {t : Tree} {i : ℕ} {f : ℕ → Made ℕ} → give (shape_of s) cpu x ≡ child_entry t i f → outcome r m ≡ ranged (shape_of s) (given_back x) (in_children (shape_of s) (give (shape_of s) cpu x)) cs
-        → Carries s (zone [] ws cs ts ps) (give (shape_of s) cpu stage) (result r (zone [] ws m ts ps))
+        → Carries s (zone [] ws cs ts ps) (give (shape_of s) cpu stage) (result_of r (zone [] ws m ts ps))
     put_child q o = arm_child give_ready (ap (give (shape_of s) cpu) e) q (o ∙ given_in s _ _ x (rw e at h.1.1))
 
     pub put_word : {t : Tree} {i : ℕ} {f : ℕ → Made ℕ} → give (shape_of s) cpu x ≡ word_entry t i f → outcome r m ≡ ranged (shape_of s) (given_back x) (in_words (shape_of s) (give (shape_of s) cpu x)) ws
-        → Carries s (zone [] ws cs ts ps) (give (shape_of s) cpu stage) (result r (zone [] m cs ts ps))
+        → Carries s (zone [] ws cs ts ps) (give (shape_of s) cpu stage) (result_of r (zone [] m cs ts ps))
     put_word q o = arm_word give_ready (ap (give (shape_of s) cpu) e) q (o ∙ given_in s _ _ x (rw e at h.1.1))

@@ -23,21 +23,21 @@ use Rattle.lending.specs.Tables.{made_at, made_in}
 use Rattle.child_stages.specs.Tables.{in_children}
 use Rattle.word_stages.specs.Tables.{in_words}
 use Rattle.upper.specs.Types.{Tree, TreeEntry, CpuEntry, Answer}
-use Rattle.calls.specs.Results.{zone, Result, result, done}
+use Rattle.calls.specs.Results.{zone, Result, result_of, done}
 
 module _ (g : Shape) (z : Zone) where
   -- a zone with another table
   abbrev pub with_cpus : Outcome Answer → Result
-  with_cpus o = result o.said (zone z.header z.words z.children z.trees o.table)
+  with_cpus o = result_of o.said (zone z.header z.words z.children z.trees o.table)
 
   abbrev pub with_trees : Outcome Answer → Result
-  with_trees o = result o.said (zone z.header z.words z.children o.table z.cpus)
+  with_trees o = result_of o.said (zone z.header z.words z.children o.table z.cpus)
 
   abbrev pub with_children : Outcome Answer → Result
-  with_children o = result o.said (zone z.header z.words o.table z.trees z.cpus)
+  with_children o = result_of o.said (zone z.header z.words o.table z.trees z.cpus)
 
   abbrev pub with_words : Outcome Answer → Result
-  with_words o = result o.said (zone z.header o.table z.children z.trees z.cpus)
+  with_words o = result_of o.said (zone z.header o.table z.children z.trees z.cpus)
 
   -- one of two, on both sides
   either : (F : Outcome Answer → Result) (b : Bool) (x y : Outcome Answer) (p q : Plan) → F x ≡ done z p → F y ≡ done z q → F (pick b x y) ≡ done z (pick b p q)

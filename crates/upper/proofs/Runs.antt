@@ -8,7 +8,7 @@ use Rattle.rules.specs.Answers.{number}
 use Rattle.rules.specs.Step.{step, follow}
 use Rattle.rules.proofs.Refusals.{refusals}
 use Rattle.calls.specs.declared.Way.{Way}
-use Rattle.calls.specs.Results.{Result, result, done, way_of, went_to, Opened}
+use Rattle.calls.specs.Results.{Result, result_of, done, way_of, went_to, Opened}
 use Rattle.calls.proofs.Runs.{stepped, way_goes}
 use Rattle.upper.specs.Types.{Record, Answer, Shape}
 
@@ -18,7 +18,7 @@ still_open o i j k l = record { checks = rw (i, j, k, l) o.checks; cpu_is_in = o
 
 -- the step of record r in zone z answers a and leaves the zone z'
 abbrev pub Makes : Zone → Record → Answer → Zone → Type 0
-Makes z r a z' = result a z' ≡ done z (step z r)
+Makes z r a z' = result_of a z' ≡ done z (step z r)
 
 module _ (fuel k : ℕ) (r : Record) (z : Zone) {z' : Zone} {a : Answer} (e : Makes z r a z') where
   -- a refusal leaves the zone as it was

@@ -16,13 +16,13 @@ use Rattle.rules.proofs.Guards.{stores}
 use Rattle.rules.proofs.Ways.{allowed}
 use Rattle.places.specs.Shapes as Shapes
 use Rattle.upper.specs.Types.{Record, Answer, Shape, Checked}
-use Rattle.calls.specs.Results.{zone, Result, result, done}
+use Rattle.calls.specs.Results.{zone, Result, result_of, done}
 use Rattle.calls.proofs.Opened.{stores_nothing, stands, passed_by, checked_in, checked_refused, checked_open}
 
 -- ---- the header stands aside: no stage reads it and none stores it
 module _ (h w c t p : List ℕ) (g : Rules) where
   abbrev with_header : Result → Result
-  with_header r = result r.answer (zone h r.zone.words r.zone.children r.zone.trees r.zone.cpus)
+  with_header r = result_of r.answer (zone h r.zone.words r.zone.children r.zone.trees r.zone.cpus)
 
   header_unread : (st : Step) → carried g (zone [] w c t p) st ≡ carried g (zone h w c t p) st
   unfolding carried
@@ -34,11 +34,11 @@ module _ (h w c t p : List ℕ) (g : Rules) where
 
   header_kept : (st : Step) → with_header (done (zone [] w c t p) (carried g (zone h w c t p) st)) ≡ done (zone h w c t p) (carried g (zone h w c t p) st)
   unfolding stored
-  header_kept st = stores g (zone h w c t p) (λ x. with_header (result (carried g (zone h w c t p) st).answer (stored format1 (zone [] w c t p) x)) ≡ result (carried g (zone h w c t p) st).answer (stored format1 (zone h w c t p) x))
+  header_kept st = stores g (zone h w c t p) (λ x. with_header (result_of (carried g (zone h w c t p) st).answer (stored format1 (zone [] w c t p) x)) ≡ result_of (carried g (zone h w c t p) st).answer (stored format1 (zone h w c t p) x))
       refl st (λ j e. refl) (λ i r k. refl) (λ i v. refl) (λ i v. refl)
 
-  pub header_aside : (st : Step) {a : Answer} {w' c' t' p' : List ℕ} → result a (zone [] w' c' t' p') ≡ done (zone [] w c t p) (carried g (zone [] w c t p) st)
-      → result a (zone h w' c' t' p') ≡ done (zone h w c t p) (carried g (zone h w c t p) st)
+  pub header_aside : (st : Step) {a : Answer} {w' c' t' p' : List ℕ} → result_of a (zone [] w' c' t' p') ≡ done (zone [] w c t p) (carried g (zone [] w c t p) st)
+      → result_of a (zone h w' c' t' p') ≡ done (zone h w c t p) (carried g (zone h w c t p) st)
   header_aside st e = ap with_header e ∙ ap (λ q. with_header (done (zone [] w c t p) q)) (header_unread st) ∙ header_kept st
 
 -- ---- a step
@@ -46,7 +46,7 @@ module _ (h w c t p : List ℕ) (r : Record) where
   abbrev z : Zone
   z = zone h w c t p
 
-  pub step_refused : {a : Answer} → checked_in h w c t p ≡ Checked.Refused a → result a z ≡ done z (step z r)
+  pub step_refused : {a : Answer} → checked_in h w c t p ≡ Checked.Refused a → result_of a z ≡ done z (step z r)
   unfolding step
   step_refused e = stores_nothing z (checked_refused h w c t p e (unless (step_range (shape_of z) r) Answer.BadRecord ∷ []) (carried (shape_of z) z (act (shape_of z) r)))
 
@@ -62,10 +62,10 @@ module _ (h w c t p : List ℕ) (r : Record) where
         ∙ (ap (λ (i : Rules). guarded (unless (step_range i r) Answer.BadRecord ∷ []) (carried i z (act i r))) k.0
         ∙ ap (λ (y : Record). guarded (unless (step_range g y) Answer.BadRecord ∷ []) (carried g z (act g y))) q)
 
-    pub step_out : passes (step_range g x) ≡ false → result Answer.BadRecord z ≡ done z (step z r)
+    pub step_out : passes (step_range g x) ≡ false → result_of Answer.BadRecord z ≡ done z (step z r)
     step_out b = stores_nothing z (step_open ∙ stands (unless (step_range g x) Answer.BadRecord) [] (carried g z (act g x)) (ap not b))
 
-    pub step_acts : Passes (step_range g x) → {a : Answer} {w' c' t' p' : List ℕ} → result a (zone [] w' c' t' p') ≡ done (zone [] w c t p) (carried g (zone [] w c t p) (act g x)) → result a (zone h w' c' t' p') ≡ done z (step z r)
+    pub step_acts : Passes (step_range g x) → {a : Answer} {w' c' t' p' : List ℕ} → result_of a (zone [] w' c' t' p') ≡ done (zone [] w c t p) (carried g (zone [] w c t p) (act g x)) → result_of a (zone h w' c' t' p') ≡ done z (step z r)
     unfolding guarded
     step_acts b d = header_aside h w c t p g (act g x) d ∙ sym (ap (done z) (step_open ∙ passed_by (unless (step_range g x) Answer.BadRecord) [] (carried g z (act g x)) (allowed (step_range g x) b)))
 

@@ -1,4 +1,6 @@
 // Steps of gets and puts. Every check is made here, in document 01's order; a refused step stores nothing.
+#![tactic(auto)]
+
 ghost use Rattle.std.specs.Prelude.{◌≡◌, [], ◌++◌};
 ghost use Rattle.laws.specs.Tests.{Passes};
 ghost use Rattle.rules.specs.Plan.{carried};
@@ -7,7 +9,7 @@ ghost use Rattle.rules.specs.Take.{take};
 ghost use Rattle.rules.specs.Give.{give};
 ghost use Rattle.rules.specs.Step.{step};
 ghost use Rattle.places.specs.Shapes.{shape_of};
-ghost use Rattle.calls.specs.Results.{zone, result, done, Fits};
+ghost use Rattle.calls.specs.Results.{zone, result_of, done, Fits};
 
 use calls::Checked;
 use places::Shape;
@@ -26,7 +28,7 @@ fn get_step(
     stage: Taking,
 ) -> Answer
     requires { Fits shape words.old children.old trees.old cpus.old × Passes (cpu_in (shape_of shape) cpu ++ taking_in (shape_of shape) cpu stage) }
-    ensures* { λ r. ⌜ result r (zone [] words.new children.new trees.new cpus.new) ≡ done (zone [] words.old children.old trees.old cpus.old) (carried (shape_of shape) (zone [] words.old children.old trees.old cpus.old) (take (shape_of shape) cpu stage)) ⌝ }
+    ensures { result_of result (zone [] words.new children.new trees.new cpus.new) ≡ done (zone [] words.old children.old trees.old cpus.old) (carried (shape_of shape) (zone [] words.old children.old trees.old cpus.old) (take (shape_of shape) cpu stage)) }
 {
     match stage {
         Taking::Own(order) => cpu_stages::own(cpus, shape, cpu, order),
@@ -96,7 +98,7 @@ fn put_step(
     stage: Giving,
 ) -> Answer
     requires { Fits shape words.old children.old trees.old cpus.old × Passes (cpu_in (shape_of shape) cpu ++ giving_in (shape_of shape) stage) }
-    ensures* { λ r. ⌜ result r (zone [] words.new children.new trees.new cpus.new) ≡ done (zone [] words.old children.old trees.old cpus.old) (carried (shape_of shape) (zone [] words.old children.old trees.old cpus.old) (give (shape_of shape) cpu stage)) ⌝ }
+    ensures { result_of result (zone [] words.new children.new trees.new cpus.new) ≡ done (zone [] words.old children.old trees.old cpus.old) (carried (shape_of shape) (zone [] words.old children.old trees.old cpus.old) (give (shape_of shape) cpu stage)) }
 {
     match stage {
         Giving::Clear(block) => match block {
@@ -118,7 +120,7 @@ pub fn step(
     cpus: &mut [u64],
     rec: Record,
 ) -> Answer
-    ensures* { λ r. ⌜ result r (zone header.now words.new children.new trees.new cpus.new) ≡ done (zone header.now words.old children.old trees.old cpus.old) (step (zone header.now words.old children.old trees.old cpus.old) rec) ⌝ }
+    ensures { result_of result (zone header.now words.new children.new trees.new cpus.new) ≡ done (zone header.now words.old children.old trees.old cpus.old) (step (zone header.now words.old children.old trees.old cpus.old) rec) }
 {
     match calls::check(header, words.len(), children.len(), trees.len(), cpus.len()) {
         Checked::Refused(answer) => answer,

@@ -1,5 +1,7 @@
 // The stages of a get and a put on words. One tree's part of the table is lent to the lower level, which alone reads and stores it.
 // A number that the table has not is answered 11.
+#![tactic(auto)]
+
 ghost use Rattle.std.specs.Prelude.{◌≡◌};
 ghost use Rattle.laws.specs.Tables.{outcome};
 ghost use Rattle.rules.specs.Blocks.{run_size, frame_at};

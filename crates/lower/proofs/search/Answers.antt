@@ -1,0 +1,79 @@
+use mathlib.Core.Path.{ap, ◌∙◌}
+use mathlib.Core.Logic.{⊎_elim}
+use Prim.Native.Nat.{◌-◌}
+use native.Mathlib.Omega.{arith}
+use lib.ListN.{length}
+use Rattle.rules.specs.Lower.{claim, take_run}
+use Rattle.lower.proofs.Tables.{step_length}
+use Rattle.lower.proofs.Searches.{search_too_many, search_no_child, search_no_field, next_wraps, next_follows, words_start, words_full, turns_start, turns_end, turns_damaged, turns_passed, turns_found, turns_given}
+use Rattle.lower.proofs.search.Goals as goal
+
+pub returns-then-n-gt-MOST_CHILDREN : goal.returns-then-n-gt-MOST_CHILDREN
+returns-then-n-gt-MOST_CHILDREN c = search_too_many _ _ _ _ c.if-n-gt-MOST_CHILDREN.true
+
+pub returns-then-n-start : goal.returns-then-n-start
+returns-then-n-start c = search_no_child _ _ _ _ c.if-n-gt-MOST_CHILDREN.false c.if-n-start.true
+
+pub returns-then-words-n : goal.returns-then-words-n
+returns-then-words-n c = search_no_field _ _ _ _ c.if-n-gt-MOST_CHILDREN.false c.if-n-start.false c.if-words-n.true
+
+pub children-init : goal.children-init
+children-init c = turns_start _ _ _ _ c.if-n-gt-MOST_CHILDREN.false c.if-n-start.false c.if-words-n.false
+
+pub loop-word-init : goal.loop-word-init
+loop-word-init c = words_start _ _ _ _ _
+
+pub take_at-requires : goal.take_at-requires
+take_at-requires c = omega (arith, ap length c.loop-word.invariant.same_words)
+
+pub loop-word-preserved : goal.loop-word-preserved
+loop-word-preserved c =
+    words_full c.loop-word.invariant c.loop-word-test.true c.take_at.ensures c.in-Full.is
+
+pub give_at-requires : goal.give_at-requires
+give_at-requires c = omega (arith, step_length (claim _) _ _ c.claim_at.ensures)
+
+pub children-preserved : goal.children-preserved
+children-preserved c =
+    let i = c.children.invariant in
+    let h = c.children-test.true in
+    let q = c.frames_of-size.ensures in
+    let e = c.claim_at.ensures in
+    rw (⊎_elim (λ w. next_wraps _ _ _ w.0.taken w.1) (λ w. next_follows _ _ _ w.0.left w.1) c.if-child-n.branch)
+    (⊎_elim
+    (λ w. rw (w.8, w.9, w.10) (turns_given i h q e w.1.given.1 w.2.inv w.3.left w.5.ensures))
+    (λ w. rw (w.2, w.3, w.4) (turns_passed i h q e w.1.given.1))
+    c.match-claim_at.branch)
+
+pub shape_of-children-after-children : goal.shape_of-children-after-children
+shape_of-children-after-children c = c.children.invariant.all
+
+pub shape_of-words-after-children : goal.shape_of-words-after-children
+shape_of-words-after-children c = c.children.invariant.words_all
+
+pub returns-after-children : goal.returns-after-children
+returns-after-children c = turns_end c.children.invariant c.children-test.false
+
+pub shape_of-children-in-At : goal.shape_of-children-in-At
+shape_of-children-in-At c =
+    step_length (claim _) _ _ c.claim_at.ensures ∙ c.children.invariant.all
+
+pub shape_of-words-in-At : goal.shape_of-words-in-At
+shape_of-words-in-At c =
+    step_length (take_run _) _ _ c.take_at.ensures ∙ ap length c.loop-word.invariant.same_words ∙ c.children.invariant.words_all
+
+pub returns-in-At : goal.returns-in-At
+returns-in-At c =
+    turns_found c.children.invariant c.children-test.true c.frames_of-size.ensures c.claim_at.ensures c.in-Taken.is
+    c.loop-word.invariant c.loop-word-test.true c.take_at.ensures _ c.in-At.is c.frame_at.ensures
+
+pub shape_of-children-in-Damaged : goal.shape_of-children-in-Damaged
+shape_of-children-in-Damaged c =
+    step_length (claim _) _ _ c.claim_at.ensures ∙ c.children.invariant.all
+
+pub shape_of-words-in-Damaged : goal.shape_of-words-in-Damaged
+shape_of-words-in-Damaged c = c.children.invariant.words_all
+
+pub returns-in-Damaged : goal.returns-in-Damaged
+returns-in-Damaged c =
+    turns_damaged c.children.invariant c.children-test.true c.frames_of-size.ensures c.claim_at.ensures c.in-Damaged.is

@@ -1,0 +1,14 @@
+use Rattle.records.specs.Encoding.{fields_of, opening_fields}
+use Rattle.records.proofs.encode_opening.Goals as goal
+
+pub returns-in-Children : goal.returns-in-Children
+unfolding fields_of opening_fields
+returns-in-Children c = rw c.in-Children.is c.numbered.ensures
+
+pub returns-in-Trees : goal.returns-in-Trees
+unfolding fields_of opening_fields
+returns-in-Trees c = rw c.in-Trees.is (rw c.tree_spot.ensures at c.held.ensures)
+
+pub returns-in-Cpus : goal.returns-in-Cpus
+unfolding fields_of opening_fields
+returns-in-Cpus c = rw c.in-Cpus.is (rw c.nowhere.ensures at c.held-in-Cpus.ensures)

@@ -1,9 +1,0 @@
-use Rattle.records.proofs.Packed.{first_join}
-use Rattle.records.proofs.join_first.Statement.{statement}
-use Rattle.records.proofs.join_first.Tie as tie
-
-returns : tie.Need-returns
-returns c = first_join c.args.stage c.args.cpu c.args.order c.args.kind c.args.start c.args.child c.args.word c.ranges.stage.fits c.ranges.cpu.fits c.ranges.order.fits c.ranges.kind.fits c.ranges.start.fits c.ranges.child.fits c.ranges.word.fits
-
-pub join-first-spec : {M : Type 1} → statement M
-join-first-spec = tie.close (tie.spec returns)
