@@ -19,13 +19,13 @@ pub returns-in-Damaged : goal.returns-in-Damaged
 returns-in-Damaged c = cpu_damaged _ _ _ _ _ _ _ c.if-cpus-cpu.false (sym c.cpu_says.ensures ∙ c.in-Damaged.is)
 
 pub returns-then-trees_of-tree : goal.returns-then-trees_of-tree
-returns-then-trees_of-tree c = cpu_sound _ _ _ _ _ _ c.if-cpus-cpu.false (not-damaged _ c.cpu_says.ensures c.in_default.keys2) (broken refl (not_laid _ _ _ _ (λ p. omega (arith, c.if-trees_of-tree.true, c.trees_of.ensures, p.0))))
+returns-then-trees_of-tree c = cpu_sound _ _ _ _ _ _ c.if-cpus-cpu.false (not-damaged _ c.cpu_says.ensures c.in_default.in_default-own.keys2) (broken refl (not_laid _ _ _ _ (λ p. omega (arith, c.if-trees_of-tree.true, c.trees_of.ensures, p.0))))
 
 pub returns-then-capacity_of-count : goal.returns-then-capacity_of-count
-returns-then-capacity_of-count c = cpu_sound _ _ _ _ _ _ c.if-cpus-cpu.false (not-damaged _ c.cpu_says.ensures c.in_default.keys2) (broken refl (not_laid _ _ _ _ (λ p. omega (arith, c.if-capacity_of-count.true, c.capacity_of.ensures, p.1.1.0))))
+returns-then-capacity_of-count c = cpu_sound _ _ _ _ _ _ c.if-cpus-cpu.false (not-damaged _ c.cpu_says.ensures c.in_default.in_default-own.keys2) (broken refl (not_laid _ _ _ _ (λ p. omega (arith, c.if-capacity_of-count.true, c.capacity_of.ensures, p.1.1.0))))
 
 pub join_cpu-requires : goal.join_cpu-requires
 join_cpu-requires c = fields_fit c.args.size _ _ _ (omega arith) (anew_laid _ _ _ (omega (arith, c.if-trees_of-tree.false, c.trees_of.ensures)) (omega (arith, c.if-capacity_of-count.false, c.capacity_of.ensures)))
 
 pub returns : goal.returns
-returns c = cpu_sound _ _ _ _ _ _ c.if-cpus-cpu.false (not-damaged _ c.cpu_says.ensures c.in_default.keys2) (stored refl (holds_packed (anew_laid _ _ _ (omega (arith, c.if-trees_of-tree.false, c.trees_of.ensures)) (omega (arith, c.if-capacity_of-count.false, c.capacity_of.ensures))) c.join_cpu.ensures))
+returns c = cpu_sound _ _ _ _ _ _ c.if-cpus-cpu.false (not-damaged _ c.cpu_says.ensures c.in_default.in_default-own.keys2) (stored refl (holds_packed (anew_laid _ _ _ (omega (arith, c.if-trees_of-tree.false, c.trees_of.ensures)) (omega (arith, c.if-capacity_of-count.false, c.capacity_of.ensures))) c.join_cpu.ensures))

@@ -1,12 +1,14 @@
-use mathlib.Core.Path.{ap, ◌∙◌}
+use mathlib.Core.Path.{◌≡◌, ap, ◌∙◌}
 use mathlib.Core.Logic.{⊎_elim}
 use Prim.Native.Nat.{◌-◌}
 use native.Mathlib.Omega.{arith}
 use lib.ListN.{length}
 use Rattle.rules.specs.Lower.{claim, take_run}
+use Rattle.lower.specs.Search.{next_of}
 use Rattle.lower.proofs.Tables.{step_length}
 use Rattle.lower.proofs.Searches.{search_too_many, search_no_child, search_no_field, next_wraps, next_follows, words_start, words_full, turns_start, turns_end, turns_damaged, turns_passed, turns_found, turns_given}
 use Rattle.lower.proofs.search.Goals as goal
+use Rattle.lower.proofs.search.Goals.{then-child-n, else-child-n, in-Taken+else-loop-word-test, in-Passed}
 
 pub returns-then-n-gt-MOST_CHILDREN : goal.returns-then-n-gt-MOST_CHILDREN
 returns-then-n-gt-MOST_CHILDREN c = search_too_many _ _ _ _ c.if-n-gt-MOST_CHILDREN.true
@@ -39,11 +41,12 @@ children-preserved c =
     let h = c.children-test.true in
     let q = c.frames_of-size.ensures in
     let e = c.claim_at.ensures in
-    rw (⊎_elim (λ w. next_wraps _ _ _ w.0.taken w.1) (λ w. next_follows _ _ _ w.0.left w.1) c.if-child-n.branch)
-    (⊎_elim
-    (λ w. rw (w.8, w.9, w.10) (turns_given i h q e w.1.given.1 w.2.inv w.3.left w.5.ensures))
-    (λ w. rw (w.2, w.3, w.4) (turns_passed i h q e w.1.given.1))
-    c.match-claim_at.branch)
+    let t : c.if-child-n.child ≡ next_of (length c.args.children.now) c.children.child =
+    elim c.if-child-n.branch [ then-child-n w ↦ next_wraps _ _ _ w.if-child-n.true w.child-is | else-child-n w ↦ next_follows _ _ _ w.if-child-n.false w.child-is ] in
+    rw t (elim c.match-claim_at.branch [
+      | in-Taken+else-loop-word-test w ↦ rw (w.children-is, w.words-is, w.found-is) (turns_given i h q e w.in-Taken.is w.loop-word.invariant w.loop-word-test.false w.give_at.ensures)
+      | in-Passed w ↦ rw (w.children-is, w.words-is, w.found-is) (turns_passed i h q e w.in-Passed.is)
+    ])
 
 pub shape_of-children-after-children : goal.shape_of-children-after-children
 shape_of-children-after-children c = c.children.invariant.all
