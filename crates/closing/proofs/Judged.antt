@@ -5,7 +5,6 @@ use mathlib.Core.List.{List, [], ◌∷◌}
 use Prim.Native.Nat.{ℕ}
 use native.Mathlib.Omega.{arith}
 use lib.ListN.{length}
-use borrow.Author.Tests.{not-true, not-false}
 use Rattle.laws.specs.Tables.{outcome}
 use Rattle.laws.proofs.Tests.{pick_elim, pick_yes, pick_no}
 use Rattle.rules.specs.Numbers.{Shape as Rules}
@@ -118,15 +117,15 @@ module _ (h w c t p : List ℕ) where
       found_zone = ap (λ y. verdict_as y w c t p) (sym q ∙ e)
 
       module _ {r : Bool} (k : r ≡ sound_in (Shapes.shape_of s) (zone [] w c t p)) where
-        pub found_damaged : not r ≡ true → Verdict.Refused Answer.Damaged ≡ verdict_in h w c t p
+        pub found_damaged : r ≡ false → Verdict.Refused Answer.Damaged ≡ verdict_in h w c t p
         unfolding verdict_as
-        found_damaged b = sym (pick_no _ _ _ (sym k ∙ not-true r b)) ∙ found_zone
+        found_damaged b = sym (pick_no _ _ _ (sym k ∙ b)) ∙ found_zone
 
-        module _ (b : not r ≡ false) {u : Bool} (l : u ≡ settled (Shapes.shape_of s) (zone [] w c t p)) where
-          pub found_unsettled : not u ≡ true → Verdict.Refused Answer.NotSettled ≡ verdict_in h w c t p
+        module _ (b : r ≡ true) {u : Bool} (l : u ≡ settled (Shapes.shape_of s) (zone [] w c t p)) where
+          pub found_unsettled : u ≡ false → Verdict.Refused Answer.NotSettled ≡ verdict_in h w c t p
           unfolding verdict_as
-          found_unsettled d = sym (pick_yes _ _ _ (sym k ∙ not-false r b) ∙ pick_no _ _ _ (sym l ∙ not-true u d)) ∙ found_zone
+          found_unsettled d = sym (pick_yes _ _ _ (sym k ∙ b) ∙ pick_no _ _ _ (sym l ∙ d)) ∙ found_zone
 
-          pub found_settled : not u ≡ false → Verdict.Settled s ≡ verdict_in h w c t p
+          pub found_settled : u ≡ true → Verdict.Settled s ≡ verdict_in h w c t p
           unfolding verdict_as
-          found_settled d = sym (pick_yes _ _ _ (sym k ∙ not-false r b) ∙ pick_yes _ _ _ (sym l ∙ not-false u d)) ∙ found_zone
+          found_settled d = sym (pick_yes _ _ _ (sym k ∙ b) ∙ pick_yes _ _ _ (sym l ∙ d)) ∙ found_zone

@@ -1,6 +1,6 @@
 -- A test of every number below n, made from 0 on: so far, one more, the first that fails.
 use mathlib.Core.Path.{◌≡◌, refl, sym, ap, ap₂, ◌∙◌}
-use mathlib.Core.Bool.{Bool, true, false, not, ◌&&◌}
+use mathlib.Core.Bool.{Bool, true, false, ◌&&◌}
 use Prim.Native.Nat.{ℕ, zero, suc, ◌+◌, ◌≤◌, ◌<◌}
 use native.Mathlib.Omega.{arith}
 use native.Mathlib.Numerals.{add-one}
@@ -15,24 +15,16 @@ module _ (f : ℕ → Bool) where
   none_yet = refl
 
   -- entry i passes, as the loop tests it
-  pub one_more : (i : ℕ) {r : Bool} → every i f ≡ true → r ≡ f i → not r ≡ false → every (i + 1) f ≡ true
+  pub one_more : (i : ℕ) {r : Bool} → every i f ≡ true → r ≡ f i → r ≡ true → every (i + 1) f ≡ true
   unfolding every
-  one_more i {r} e q h = rw add-one (both_and _ _ (sym q ∙ passes r h) e)
-    where
-      passes : (r : Bool) → not r ≡ false → r ≡ true
-      passes true h = refl
-      passes false h = true_false h
+  one_more i e q h = rw add-one (both_and _ _ (sym q ∙ h) e)
 
-  pub one_fails : (n i : ℕ) {r : Bool} → i < n → r ≡ f i → not r ≡ true → false ≡ every n f
-  one_fails n i {r} l q h = go (every n f) refl
+  pub one_fails : (n i : ℕ) {r : Bool} → i < n → r ≡ f i → r ≡ false → false ≡ every n f
+  one_fails n i l q h = go (every n f) refl
     where
-      fails : (r : Bool) → not r ≡ true → r ≡ false
-      fails true h = true_false (sym h)
-      fails false h = refl
-
       go : (b : Bool) → every n f ≡ b → false ≡ b
       go false e = refl
-      go true e = true_false (sym (every_at n f e i l) ∙ sym q ∙ fails r h)
+      go true e = true_false (sym (every_at n f e i l) ∙ sym q ∙ h)
 
   pub all_done : (n i : ℕ) → every i f ≡ true → i ≤ n → n ≤ i → true ≡ every n f
   all_done n i e l m = let q : i ≡ n = omega arith in sym (ap (λ k. every k f) (sym q) ∙ e)
@@ -56,16 +48,8 @@ every_same {n} {m} {f} {g} e k = go n k ∙ ap (λ i. every i g) e
 
 -- two tests, one after the other
 module _ (a b : Bool) {r : Bool} (e : r ≡ a) where
-  pub first_fails : not r ≡ true → false ≡ (a && b)
-  first_fails h = ap (λ x. x && b) (go r h) ∙ ap (λ x. x && b) e
-    where
-      go : (r : Bool) → not r ≡ true → false ≡ r
-      go true h = true_false (sym h)
-      go false h = refl
+  pub first_fails : r ≡ false → false ≡ (a && b)
+  first_fails h = ap (λ x. x && b) (sym h ∙ e)
 
-  pub first_passes : not r ≡ false → {q : Bool} → q ≡ b → q ≡ (a && b)
-  first_passes h k = k ∙ (ap (λ x. x && b) (go r h) ∙ ap (λ x. x && b) e)
-    where
-      go : (r : Bool) → not r ≡ false → true ≡ r
-      go true h = refl
-      go false h = true_false h
+  pub first_passes : r ≡ true → {q : Bool} → q ≡ b → q ≡ (a && b)
+  first_passes h k = k ∙ ap (λ x. x && b) (sym h ∙ e)

@@ -5,7 +5,7 @@ use mathlib.Core.List.{List, []}
 use Prim.Native.Nat.{ℕ, ◌+◌, ◌*◌, ◌≤◌, ◌<◌}
 use native.Mathlib.Omega.{arith}
 use lib.ListN.{length, get_or, set}
-use borrow.Author.Tests.{lt-ltb, le-leb, not-true, not-false}
+use borrow.Author.Tests.{lt-ltb, le-leb}
 use Rattle.laws.specs.Tests.{Passes}
 use Rattle.laws.specs.Tables.{Outcome, outcome}
 use Rattle.laws.proofs.Tests.{pick_elim, pick_yes}
@@ -153,15 +153,15 @@ module _ (s : Shape) (t : Tree) (c l : List ℕ) (k : (Sizes.huge_of s.size ≡ 
   unfolding part_formed_in opening_sound
   part_same = f ∙ pick_yes _ _ _ (le-leb _ (length c) part_there)
 
-  pub part_damaged : not b ≡ true → result_of Answer.Damaged (tree_zone c l) ≡ done (tree_zone c l) (open_at (shape_of s) (tree_zone c l) (Opening.Trees t))
-  part_damaged a = stage_damaged (shape_of s) (tree_zone c l) (Opening.Trees t) (sym part_same ∙ not-true b a)
+  pub part_damaged : b ≡ false → result_of Answer.Damaged (tree_zone c l) ≡ done (tree_zone c l) (open_at (shape_of s) (tree_zone c l) (Opening.Trees t))
+  part_damaged a = stage_damaged (shape_of s) (tree_zone c l) (Opening.Trees t) (sym part_same ∙ a)
 
   -- a tree's children count its capacity at most
   count_in_lem : child_count (shape_of s) (tree_zone c l) t ≤ capacity (shape_of s) t.0
   unfolding child_count part_sum
   count_in_lem = omega (arith, sum_bound (children_of (shape_of s) t.0) child_frames (λ j. count_in (get_or (child_part (shape_of s) (tree_zone c l) t) j 0)) (λ j h. count_few (get_or (child_part (shape_of s) (tree_zone c l) t) j 0)))
 
-  module _ (a : not b ≡ false) (m : List ℕ) {x : Added} {n : ℕ} (d : n ≡ child_count_in s t c) (o : outcome x m ≡ store_count_in s.size t n l) where
+  module _ (a : b ≡ true) (m : List ℕ) {x : Added} {n : ℕ} (d : n ≡ child_count_in s t c) (o : outcome x m ≡ store_count_in s.size t n l) where
     count_same : n ≡ child_count (shape_of s) (tree_zone c l) t
     unfolding child_count_in child_count
     count_same = d ∙ pick_yes _ _ _ (le-leb _ (length c) part_there)
@@ -183,7 +183,7 @@ module _ (s : Shape) (t : Tree) (c l : List ℕ) (k : (Sizes.huge_of s.size ≡ 
       unfolding open_stage stored
       tree_made q =
           ap₂ (λ y (u : Outcome Added). result_of y (tree_zone c u.table)) q tree_stored
-          ∙ sym (ap (done (tree_zone c l)) (stage_sound (shape_of s) (tree_zone c l) (Opening.Trees t) (sym part_same ∙ not-false b a)))
+          ∙ sym (ap (done (tree_zone c l)) (stage_sound (shape_of s) (tree_zone c l) (Opening.Trees t) (sym part_same ∙ a)))
 
       pub tree_next : t.0 + 1 < j → r ≡ opening (Opening.Trees (tree (t.0 + 1))) → Sums r
       unfolding open_stage

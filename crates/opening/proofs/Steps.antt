@@ -4,7 +4,6 @@ use mathlib.Core.Bool.{Bool, true, false, not, ◌&&◌}
 use mathlib.Core.List.{List, [], ◌∷◌}
 use Prim.Native.Nat.{ℕ}
 use native.Mathlib.Omega.{arith}
-use borrow.Author.Tests.{not-true, not-false}
 use Rattle.laws.specs.Tests.{pick, passes, Passes}
 use Rattle.laws.specs.Tables.{Outcome, outcome, wrapped}
 use Rattle.laws.proofs.Tests.{all_passed}
@@ -83,10 +82,10 @@ module _ (h w c t p : List ℕ) where
       formed_same : r ≡ children_formed (shape_in m) z
       formed_same = a ∙ zone_formed (shape_by p m) h w c t p k.2
 
-      malformed : not r ≡ true → result_of Answer.Damaged z ≡ done z (open_zone z)
+      malformed : r ≡ false → result_of Answer.Damaged z ≡ done z (open_zone z)
       malformed q = open_damaged (first_fails (children_formed (shape_in m) z) (pick b (flags_empty (shape_in m) z) true) formed_same q)
 
-      all_formed : not r ≡ false → {u : Bool} → u ≡ pick b (flags_empty (shape_in m) z) true → u ≡ sound (shape_in m) b
+      all_formed : r ≡ true → {u : Bool} → u ≡ pick b (flags_empty (shape_in m) z) true → u ≡ sound (shape_in m) b
       all_formed q d = first_passes (children_formed (shape_in m) z) (pick b (flags_empty (shape_in m) z) true) formed_same q d
 
   -- a zone that was cut off, and one that was closed
@@ -95,29 +94,29 @@ module _ (h w c t p : List ℕ) where
       cut : Ready h w c t p m true
       cut = openable_cut h w c t p e
 
-      pub cut_malformed : not r ≡ true → result_of Answer.Damaged z ≡ done z (open_zone z)
+      pub cut_malformed : r ≡ false → result_of Answer.Damaged z ≡ done z (open_zone z)
       cut_malformed = malformed m true cut a
 
-      module _ (q : not r ≡ false) {u : Bool} (d : u ≡ flags_empty_in c w) where
+      module _ (q : r ≡ true) {u : Bool} (d : u ≡ flags_empty_in c w) where
         cut_sound : u ≡ sound (shape_in m) true
         unfolding pick
         cut_sound = all_formed m true cut a q (d ∙ zone_flags (shape_by p m) h w c t p cut.2)
 
-        pub cut_flagged : not u ≡ true → result_of Answer.Damaged z ≡ done z (open_zone z)
-        cut_flagged f = open_damaged m true cut (sym (not-true u f) ∙ cut_sound)
+        pub cut_flagged : u ≡ false → result_of Answer.Damaged z ≡ done z (open_zone z)
+        cut_flagged f = open_damaged m true cut (sym f ∙ cut_sound)
 
-        pub cut_starts : not u ≡ false → {x : Answer} {h' : List ℕ} → outcome x h' ≡ start_in m (Opening.Children (huge 0)) h → result_of x (zone h' w c t p) ≡ done z (open_zone z)
+        pub cut_starts : u ≡ true → {x : Answer} {h' : List ℕ} → outcome x h' ≡ start_in m (Opening.Children (huge 0)) h → result_of x (zone h' w c t p) ≡ done z (open_zone z)
         unfolding pick
-        cut_starts f = open_starts m true cut (sym (not-false u f) ∙ cut_sound)
+        cut_starts f = open_starts m true cut (sym f ∙ cut_sound)
 
     module _ (e : openable_by h w c t p ≡ Openable.Closed m) (a : r ≡ children_formed_in c) where
       closed : Ready h w c t p m false
       closed = openable_closed h w c t p e
 
-      pub closed_malformed : not r ≡ true → result_of Answer.Damaged z ≡ done z (open_zone z)
+      pub closed_malformed : r ≡ false → result_of Answer.Damaged z ≡ done z (open_zone z)
       closed_malformed = malformed m false closed a
 
-      pub closed_starts : not r ≡ false → {x : Answer} {h' : List ℕ} → outcome x h' ≡ start_in m (Opening.Trees (tree 0)) h → result_of x (zone h' w c t p) ≡ done z (open_zone z)
+      pub closed_starts : r ≡ true → {x : Answer} {h' : List ℕ} → outcome x h' ≡ start_in m (Opening.Trees (tree 0)) h → result_of x (zone h' w c t p) ≡ done z (open_zone z)
       unfolding pick
       closed_starts q = open_starts m false closed (all_formed m false closed a q refl)
 

@@ -138,21 +138,21 @@ module _ {s : Shape} {cpu : ℕ} {h w c t p : List ℕ} (o : Opened s cpu h w c 
 
 -- what was said is not of an entry; of an entry, it is not that the block was given
 abbrev NotEntry : Given → Type 0
-NotEntry s = (tag_of Givens.the_type s ≡ 1) ⊎ ((tag_of Givens.the_type s ≡ 2) ⊎ (tag_of Givens.the_type s ≡ 3))
+NotEntry s = (v : Gave) → s ≡ Given.Entry v → ⊥
 
 abbrev NotGiven : Gave → Type 0
-NotGiven v = (tag_of Gaves.the_type v ≡ 1) ⊎ (tag_of Gaves.the_type v ≡ 2)
+NotGiven v = v ≡ Gave.Given → ⊥
 
 -- then the answer is a refusal
 module _ (x : Answer) where
   pub said_refused : (s : Given) → NotEntry s → 2 ≤ number (given_answer x s)
-  said_refused (Given.Entry v) k = ⊎_elim (λ e. absurd (omega arith)) (λ q. ⊎_elim (λ e. absurd (omega arith)) (λ e. absurd (omega arith)) q) k
+  said_refused (Given.Entry v) k = absurd (k v refl)
   said_refused Given.NoChild k = omega arith
   said_refused Given.NoWord k = omega arith
   said_refused Given.NoBit k = omega arith
 
   gave_is : (v : Gave) → NotGiven v → 2 ≤ number (given_answer x (Given.Entry v))
-  gave_is Gave.Given k = ⊎_elim (λ e. absurd (omega arith)) (λ e. absurd (omega arith)) k
+  gave_is Gave.Given k = absurd (k refl)
   gave_is Gave.NotTaken k = omega arith
   gave_is Gave.Damaged k = omega arith
 

@@ -8,7 +8,7 @@ use Rattle.get_runs.proofs.own_on.Goals as goal
 
 pub returns-then-fuel-eq0 : goal.returns-then-fuel-eq0
 unfolding went_to
-returns-then-fuel-eq0 c = rw c.stands.ensures refl
+returns-then-fuel-eq0 c = simp c.stands.ensures refl
 
 pub child_on-left-requires : goal.child_on-left-requires
 child_on-left-requires c = (still_open c.requires refl refl refl (search rules), search_in_lem _ _ _ _ _ _ c.search_in.ensures c.if-search_in.true)
@@ -27,16 +27,16 @@ pub returns-then-search_in : goal.returns-then-search_in
 returns-then-search_in c = own_claimed _ _ _ _ c.requires _ c.if-fuel-eq0.false c.frames_of.ensures c.claim_own.ensures c.in-Claimed.is c.child_on-left.ensures
 
 pub returns-in-Absent : goal.returns-in-Absent
-returns-in-Absent c = rw c.stands-in-Absent.ensures (own_goes _ _ _ _ c.requires _ c.if-fuel-eq0.false c.frames_of.ensures c.claim_own.ensures c.in-Absent.is refl)
+returns-in-Absent c = simp c.stands-in-Absent.ensures (own_goes _ _ _ _ c.requires _ c.if-fuel-eq0.false c.frames_of.ensures c.claim_own.ensures c.in-Absent.is refl)
 
 pub returns-else-search_in : goal.returns-else-search_in
-returns-else-search_in c = rw c.stands-in-Claimed.ensures (own_goes _ _ _ _ c.requires _ c.if-fuel-eq0.false c.frames_of.ensures c.claim_own.ensures c.in-Claimed.is refl)
+returns-else-search_in c = simp c.stands-in-Claimed.ensures (own_goes _ _ _ _ c.requires _ c.if-fuel-eq0.false c.frames_of.ensures c.claim_own.ensures c.in-Claimed.is refl)
 
 pub returns-in-Short : goal.returns-in-Short
-returns-in-Short c = rw c.stands-in-Short.ensures (own_goes _ _ _ _ c.requires _ c.if-fuel-eq0.false c.frames_of.ensures c.claim_own.ensures c.in-Short.is refl)
+returns-in-Short c = simp c.stands-in-Short.ensures (own_goes _ _ _ _ c.requires _ c.if-fuel-eq0.false c.frames_of.ensures c.claim_own.ensures c.in-Short.is refl)
 
 pub returns-in-Damaged : goal.returns-in-Damaged
-returns-in-Damaged c = rw c.stands-in-Damaged.ensures (own_stands _ _ _ _ c.requires _ c.if-fuel-eq0.false c.frames_of.ensures c.claim_own.ensures c.in-Damaged.is (omega arith))
+returns-in-Damaged c = simp c.stands-in-Damaged.ensures (own_stands _ _ _ _ c.requires _ c.if-fuel-eq0.false c.frames_of.ensures c.claim_own.ensures c.in-Damaged.is (omega arith))
 
 pub returns-in-NoCpu : goal.returns-in-NoCpu
-returns-in-NoCpu c = rw c.stands-in-NoCpu.ensures (own_stands _ _ _ _ c.requires _ c.if-fuel-eq0.false c.frames_of.ensures c.claim_own.ensures c.in-NoCpu.is (omega arith))
+returns-in-NoCpu c = simp c.stands-in-NoCpu.ensures (own_stands _ _ _ _ c.requires _ c.if-fuel-eq0.false c.frames_of.ensures c.claim_own.ensures c.in-NoCpu.is (omega arith))

@@ -12,7 +12,7 @@ unfolding went_to
 returns-in-Given c = run_follows c.if-fuel-le1.false (raise_step c.requires.0 c.requires.1 c.frames_of.ensures c.give_count-said.ensures (rw (c.in-Entry.is, c.in-Given.is) refl)) refl
 
 pub returns-in_default-gave : goal.returns-in_default-gave
-returns-in_default-gave c = run_stays _ _ (raise_step c.requires.0 c.requires.1 c.frames_of.ensures c.give_count-said.ensures refl) (gave_refused _ c.in-Entry.is c.in_default-gave.keys2) refl
+returns-in_default-gave c = run_stays _ _ (raise_step c.requires.0 c.requires.1 c.frames_of.ensures c.give_count-said.ensures refl) (gave_refused _ c.in-Entry.is c.in_default-gave.not-Given) refl
 
 pub returns-in_default : goal.returns-in_default
-returns-in_default c = run_stays _ _ (raise_step c.requires.0 c.requires.1 c.frames_of.ensures c.give_count-said.ensures refl) (said_refused _ c.give_count-said.result c.in_default.in_default-own.keys2) refl
+returns-in_default c = run_stays _ _ (raise_step c.requires.0 c.requires.1 c.frames_of.ensures c.give_count-said.ensures refl) (said_refused _ c.give_count-said.result c.in_default.not-Entry) refl
