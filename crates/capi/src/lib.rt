@@ -51,8 +51,7 @@ fn no_size(n: u64) -> bool
     MOST_HUGE < n
 }
 
-#[unsafe(no_mangle)]
-pub extern "C" fn lovarntek_words(n: u64) -> u64
+pub fn lovarntek_words(n: u64) -> u64
     ensures { result ≡ length_for n (child_words * n) }
 {
     if no_size(n) {
@@ -61,8 +60,7 @@ pub extern "C" fn lovarntek_words(n: u64) -> u64
     CHILD_WORDS * n
 }
 
-#[unsafe(no_mangle)]
-pub extern "C" fn lovarntek_children(n: u64) -> u64
+pub fn lovarntek_children(n: u64) -> u64
     ensures { result ≡ length_for n n }
 {
     if no_size(n) {
@@ -71,8 +69,7 @@ pub extern "C" fn lovarntek_children(n: u64) -> u64
     n
 }
 
-#[unsafe(no_mangle)]
-pub extern "C" fn lovarntek_trees(n: u64) -> u64
+pub fn lovarntek_trees(n: u64) -> u64
     ensures { result ≡ length_for n (trees_for n) }
 {
     if no_size(n) {
@@ -182,8 +179,7 @@ fn no_create_record(n: u64) -> Answer
 
 // ---- gets and puts
 
-#[unsafe(no_mangle)]
-pub extern "C" fn lovarntek_get(
+pub fn lovarntek_get(
     header: &[u64],
     words: &[u64],
     children: &[u16],
@@ -203,8 +199,7 @@ pub extern "C" fn lovarntek_get(
     told(answer)
 }
 
-#[unsafe(no_mangle)]
-pub extern "C" fn lovarntek_put(
+pub fn lovarntek_put(
     header: &[u64],
     words: &[u64],
     children: &[u16],
@@ -234,8 +229,7 @@ pub extern "C" fn lovarntek_put(
     told(answer)
 }
 
-#[unsafe(no_mangle)]
-pub extern "C" fn lovarntek_step(
+pub fn lovarntek_step(
     header: &[u64],
     words: &mut [u64],
     children: &mut [u16],
@@ -254,8 +248,7 @@ pub extern "C" fn lovarntek_step(
     told(answer)
 }
 
-#[unsafe(no_mangle)]
-pub extern "C" fn lovarntek_run(
+pub fn lovarntek_run(
     header: &[u64],
     words: &mut [u64],
     children: &mut [u16],
@@ -275,8 +268,7 @@ pub extern "C" fn lovarntek_run(
     told_run(rec, answer, ended.steps)
 }
 
-#[unsafe(no_mangle)]
-pub extern "C" fn lovarntek_get_run(
+pub fn lovarntek_get_run(
     header: &[u64],
     words: &mut [u64],
     children: &mut [u16],
@@ -303,8 +295,7 @@ pub extern "C" fn lovarntek_get_run(
     }
 }
 
-#[unsafe(no_mangle)]
-pub extern "C" fn lovarntek_put_run(
+pub fn lovarntek_put_run(
     header: &[u64],
     words: &mut [u64],
     children: &mut [u16],
@@ -344,8 +335,7 @@ pub extern "C" fn lovarntek_put_run(
 
 // ---- create
 
-#[unsafe(no_mangle)]
-pub extern "C" fn lovarntek_create(
+pub fn lovarntek_create(
     header: &mut [u64],
     words: &[u64],
     children: &[u16],
@@ -364,8 +354,7 @@ pub extern "C" fn lovarntek_create(
     told(answer)
 }
 
-#[unsafe(no_mangle)]
-pub extern "C" fn lovarntek_create_step(
+pub fn lovarntek_create_step(
     header: &mut [u64],
     words: &mut [u64],
     children: &mut [u16],
@@ -385,8 +374,7 @@ pub extern "C" fn lovarntek_create_step(
     told(answer)
 }
 
-#[unsafe(no_mangle)]
-pub extern "C" fn lovarntek_create_run(
+pub fn lovarntek_create_run(
     header: &mut [u64],
     words: &mut [u64],
     children: &mut [u16],
@@ -409,8 +397,7 @@ pub extern "C" fn lovarntek_create_run(
 
 // ---- open
 
-#[unsafe(no_mangle)]
-pub extern "C" fn lovarntek_open(
+pub fn lovarntek_open(
     header: &mut [u64],
     words: &[u64],
     children: &[u16],
@@ -428,8 +415,7 @@ pub extern "C" fn lovarntek_open(
     told(answer)
 }
 
-#[unsafe(no_mangle)]
-pub extern "C" fn lovarntek_open_step(
+pub fn lovarntek_open_step(
     header: &[u64],
     words: &[u64],
     children: &mut [u16],
@@ -448,8 +434,7 @@ pub extern "C" fn lovarntek_open_step(
     told(answer)
 }
 
-#[unsafe(no_mangle)]
-pub extern "C" fn lovarntek_open_run(
+pub fn lovarntek_open_run(
     header: &[u64],
     words: &[u64],
     children: &mut [u16],
@@ -471,8 +456,7 @@ pub extern "C" fn lovarntek_open_run(
 
 // ---- close
 
-#[unsafe(no_mangle)]
-pub extern "C" fn lovarntek_close(
+pub fn lovarntek_close(
     header: &mut [u64],
     words: &[u64],
     children: &[u16],
@@ -484,8 +468,7 @@ pub extern "C" fn lovarntek_close(
     told(closing::close(header, words, children, trees, cpus))
 }
 
-#[unsafe(no_mangle)]
-pub extern "C" fn lovarntek_settled(
+pub fn lovarntek_settled(
     header: &[u64],
     words: &[u64],
     children: &[u16],

@@ -3,59 +3,59 @@
 
 ghost use Rattle.std.specs.Prelude.{◌≡◌, ◌≤◌, ◌<◌, length};
 
-use libc::STDOUT_FILENO;
 use lower::{Claimed, Empty, Given, Looked, Recounted, Searched, Stored, Summed, Taken, Zeros};
 use rules::{Bit, ChildEntry, Gave, Run, Took};
+use std::io::{Print, Stdout};
 
-fn name(text: &[u8]) {
-    io::write_all(STDOUT_FILENO, text);
+fn name(out: Stdout, text: &[u8]) {
+    let _ = out.write_all(text);
 }
 
-fn number(n: u64) {
-    io::write_all(STDOUT_FILENO, b" ");
-    io::print_decimal(STDOUT_FILENO, n);
+fn number(out: Stdout, n: u64) {
+    let _ = out.write_all(b" ");
+    let _ = out.print(n);
 }
 
 fn wide(n: u16) -> u64 {
     n as u64
 }
 
-fn end() {
-    io::write_all(STDOUT_FILENO, b"\n");
+fn end(out: Stdout) {
+    let _ = out.write_all(b"\n");
 }
 
-fn line2(text: &[u8], a: u64, b: u64) {
-    name(text);
-    number(a);
-    number(b);
-    end();
+fn line2(out: Stdout, text: &[u8], a: u64, b: u64) {
+    name(out, text);
+    number(out, a);
+    number(out, b);
+    end(out);
 }
 
-fn line3(text: &[u8], a: u64, b: u64, c: u64) {
-    name(text);
-    number(a);
-    number(b);
-    number(c);
-    end();
+fn line3(out: Stdout, text: &[u8], a: u64, b: u64, c: u64) {
+    name(out, text);
+    number(out, a);
+    number(out, b);
+    number(out, c);
+    end(out);
 }
 
-fn line4(text: &[u8], a: u64, b: u64, c: u64, d: u64) {
-    name(text);
-    number(a);
-    number(b);
-    number(c);
-    number(d);
-    end();
+fn line4(out: Stdout, text: &[u8], a: u64, b: u64, c: u64, d: u64) {
+    name(out, text);
+    number(out, a);
+    number(out, b);
+    number(out, c);
+    number(out, d);
+    end(out);
 }
 
-fn line5(text: &[u8], a: u64, b: u64, c: u64, d: u64, e: u64) {
-    name(text);
-    number(a);
-    number(b);
-    number(c);
-    number(d);
-    number(e);
-    end();
+fn line5(out: Stdout, text: &[u8], a: u64, b: u64, c: u64, d: u64, e: u64) {
+    name(out, text);
+    number(out, a);
+    number(out, b);
+    number(out, c);
+    number(out, d);
+    number(out, e);
+    end(out);
 }
 
 // ---- answers as numbers
@@ -160,16 +160,24 @@ fn searched(s: Searched) -> u64 {
 
 // ---- one child entry, with what each step makes of it
 
-fn claim(entry: u16, size: u16) {
+fn claim(out: Stdout, entry: u16, size: u16) {
     let mut children = [entry];
     let said = claimed(lower::claim(&mut children, 0, size));
-    line4(b"claim", entry as u64, size as u64, said, wide(children[0]));
+    line4(
+        out,
+        b"claim",
+        entry as u64,
+        size as u64,
+        said,
+        wide(children[0]),
+    );
 }
 
-fn give_count(entry: u16, size: u16) {
+fn give_count(out: Stdout, entry: u16, size: u16) {
     let mut children = [entry];
     let said = given(lower::give_count(&mut children, 0, size));
     line4(
+        out,
         b"give_count",
         entry as u64,
         size as u64,
@@ -178,30 +186,36 @@ fn give_count(entry: u16, size: u16) {
     );
 }
 
-fn take_huge(entry: u16) {
+fn take_huge(out: Stdout, entry: u16) {
     let mut children = [entry];
     let said = claimed(lower::take_huge(&mut children, 0));
-    line3(b"take_huge", entry as u64, said, wide(children[0]));
+    line3(out, b"take_huge", entry as u64, said, wide(children[0]));
 }
 
-fn clear_huge(entry: u16) {
+fn clear_huge(out: Stdout, entry: u16) {
     let mut children = [entry];
     let said = given(lower::clear_huge(&mut children, 0));
-    line3(b"clear_huge", entry as u64, said, wide(children[0]));
+    line3(out, b"clear_huge", entry as u64, said, wide(children[0]));
 }
 
-fn look(entry: u16) {
+fn look(out: Stdout, entry: u16) {
     let children = [entry];
-    line2(b"look", entry as u64, looked(lower::look(&children, 0)));
+    line2(
+        out,
+        b"look",
+        entry as u64,
+        looked(lower::look(&children, 0)),
+    );
 }
 
 // The field has seven words with no zero bit, and the last as given.
-fn store_recount(entry: u16, last: u64) {
+fn store_recount(out: Stdout, entry: u16, last: u64) {
     let mut children = [entry];
     let full = u64::MAX;
     let words = [full, full, full, full, full, full, full, last];
     let said = recounted(lower::store_recount(&mut children, &words, 0));
     line4(
+        out,
         b"store_recount",
         entry as u64,
         last,
@@ -210,24 +224,24 @@ fn store_recount(entry: u16, last: u64) {
     );
 }
 
-fn entry(e: u16) {
-    claim(e, 0);
-    give_count(e, 0);
-    claim(e, 1);
-    give_count(e, 1);
-    claim(e, 511);
-    give_count(e, 511);
-    claim(e, 512);
-    give_count(e, 512);
-    claim(e, 513);
-    give_count(e, 513);
-    take_huge(e);
-    clear_huge(e);
-    look(e);
-    store_recount(e, 0);
-    store_recount(e, FULL);
-    store_recount(e, FIRST);
-    store_recount(e, LAST);
+fn entry(out: Stdout, e: u16) {
+    claim(out, e, 0);
+    give_count(out, e, 0);
+    claim(out, e, 1);
+    give_count(out, e, 1);
+    claim(out, e, 511);
+    give_count(out, e, 511);
+    claim(out, e, 512);
+    give_count(out, e, 512);
+    claim(out, e, 513);
+    give_count(out, e, 513);
+    take_huge(out, e);
+    clear_huge(out, e);
+    look(out, e);
+    store_recount(out, e, 0);
+    store_recount(out, e, FULL);
+    store_recount(out, e, FIRST);
+    store_recount(out, e, LAST);
 }
 
 // ---- one word of a field of ones, with what each step makes of it
@@ -249,12 +263,13 @@ fn field(word: usize, value: u64) -> [u64; 8]
 }
 
 // The run's frames are a line's first number.
-fn take_run(word: usize, value: u64, run: Run)
+fn take_run(out: Stdout, word: usize, value: u64, run: Run)
     requires { word < 8 }
 {
     let mut words = field(word, value);
     let said = taken(lower::take_run(&mut words, 0, word, run));
     line5(
+        out,
         b"take_run",
         wide(rules::frames_of(run)),
         word as u64,
@@ -264,10 +279,11 @@ fn take_run(word: usize, value: u64, run: Run)
     );
 }
 
-fn clear_run(value: u64, bit: u32, run: Run) {
+fn clear_run(out: Stdout, value: u64, bit: u32, run: Run) {
     let mut words = field(7, value);
     let said = given(lower::clear_run(&mut words, 0, 7, bit, run));
     line5(
+        out,
         b"clear_run",
         wide(rules::frames_of(run)),
         value,
@@ -277,17 +293,17 @@ fn clear_run(value: u64, bit: u32, run: Run) {
     );
 }
 
-fn word(w: u64) {
-    take_run(0, w, Run::One);
-    take_run(7, w, Run::One);
-    clear_run(w, 0, Run::One);
-    clear_run(w, 1, Run::One);
-    clear_run(w, 63, Run::One);
-    clear_run(w, 64, Run::One);
+fn word(out: Stdout, w: u64) {
+    take_run(out, 0, w, Run::One);
+    take_run(out, 7, w, Run::One);
+    clear_run(out, w, 0, Run::One);
+    clear_run(out, w, 1, Run::One);
+    clear_run(out, w, 63, Run::One);
+    clear_run(out, w, 64, Run::One);
     let words = field(7, w);
-    line2(b"zero_bits", w, zeros(lower::zero_bits(&words, 0)));
+    line2(out, b"zero_bits", w, zeros(lower::zero_bits(&words, 0)));
     let alone = [0, 0, 0, 0, 0, 0, 0, w];
-    line2(b"field_empty", w, empty(lower::field_empty(&alone, 0)));
+    line2(out, b"field_empty", w, empty(lower::field_empty(&alone, 0)));
 }
 
 // Only bit 63 set; only bits 4 and 5 clear, a pair; only bits 5 and 6, no pair; only bit 0 and the last eight clear.
@@ -299,30 +315,31 @@ const NO_PAIR: u64 = 0xffff_ffff_ffff_ff9f;
 
 const ENDS: u64 = 0x00ff_ffff_ffff_fffe;
 
-fn runs(w: u64) {
-    take_run(7, w, Run::Two);
-    take_run(7, w, Run::Eight);
-    take_run(7, w, Run::SixtyFour);
+fn runs(out: Stdout, w: u64) {
+    take_run(out, 7, w, Run::Two);
+    take_run(out, 7, w, Run::Eight);
+    take_run(out, 7, w, Run::SixtyFour);
 }
 
 // Each size with all its bits set, with one of them clear, and past the word's end.
-fn clear_runs() {
-    clear_run(FULL, 2, Run::Two);
-    clear_run(FIRST, 0, Run::Two);
-    clear_run(FULL, 63, Run::Two);
-    clear_run(FULL, 0xffff_ffff, Run::Two);
-    clear_run(FULL, 56, Run::Eight);
-    clear_run(LAST, 56, Run::Eight);
-    clear_run(FULL, 57, Run::Eight);
-    clear_run(FULL, 0, Run::SixtyFour);
-    clear_run(LAST, 0, Run::SixtyFour);
-    clear_run(FULL, 1, Run::SixtyFour);
+fn clear_runs(out: Stdout) {
+    clear_run(out, FULL, 2, Run::Two);
+    clear_run(out, FIRST, 0, Run::Two);
+    clear_run(out, FULL, 63, Run::Two);
+    clear_run(out, FULL, 0xffff_ffff, Run::Two);
+    clear_run(out, FULL, 56, Run::Eight);
+    clear_run(out, LAST, 56, Run::Eight);
+    clear_run(out, FULL, 57, Run::Eight);
+    clear_run(out, FULL, 0, Run::SixtyFour);
+    clear_run(out, LAST, 0, Run::SixtyFour);
+    clear_run(out, FULL, 1, Run::SixtyFour);
 }
 
 // ---- slices of length 0, one short, right and one long; an index below the length, at it and past it
 
-fn claim_in(children: &mut [u16], at: usize) {
+fn claim_in(out: Stdout, children: &mut [u16], at: usize) {
     line3(
+        out,
         b"claim_in",
         children.len() as u64,
         at as u64,
@@ -330,8 +347,9 @@ fn claim_in(children: &mut [u16], at: usize) {
     );
 }
 
-fn take_huge_in(children: &mut [u16], at: usize) {
+fn take_huge_in(out: Stdout, children: &mut [u16], at: usize) {
     line3(
+        out,
         b"take_huge_in",
         children.len() as u64,
         at as u64,
@@ -339,8 +357,9 @@ fn take_huge_in(children: &mut [u16], at: usize) {
     );
 }
 
-fn give_count_in(children: &mut [u16], at: usize) {
+fn give_count_in(out: Stdout, children: &mut [u16], at: usize) {
     line3(
+        out,
         b"give_count_in",
         children.len() as u64,
         at as u64,
@@ -348,8 +367,9 @@ fn give_count_in(children: &mut [u16], at: usize) {
     );
 }
 
-fn clear_huge_in(children: &mut [u16], at: usize) {
+fn clear_huge_in(out: Stdout, children: &mut [u16], at: usize) {
     line3(
+        out,
         b"clear_huge_in",
         children.len() as u64,
         at as u64,
@@ -357,8 +377,9 @@ fn clear_huge_in(children: &mut [u16], at: usize) {
     );
 }
 
-fn fresh_child_in(children: &mut [u16], at: usize) {
+fn fresh_child_in(out: Stdout, children: &mut [u16], at: usize) {
     line3(
+        out,
         b"fresh_child_in",
         children.len() as u64,
         at as u64,
@@ -366,22 +387,25 @@ fn fresh_child_in(children: &mut [u16], at: usize) {
     );
 }
 
-fn looks_in(children: &[u16], at: usize) {
+fn looks_in(out: Stdout, children: &[u16], at: usize) {
     line3(
+        out,
         b"look_in",
         children.len() as u64,
         at as u64,
         looked(lower::look(children, at)),
     );
     line2(
+        out,
         b"sum_in",
         children.len() as u64,
         summed(lower::sum(children)),
     );
 }
 
-fn take_run_in(words: &mut [u64], child: usize, at: usize) {
+fn take_run_in(out: Stdout, words: &mut [u64], child: usize, at: usize) {
     line4(
+        out,
         b"take_run_in",
         words.len() as u64,
         child as u64,
@@ -390,8 +414,9 @@ fn take_run_in(words: &mut [u64], child: usize, at: usize) {
     );
 }
 
-fn clear_run_in(words: &mut [u64], child: usize, at: usize) {
+fn clear_run_in(out: Stdout, words: &mut [u64], child: usize, at: usize) {
     line4(
+        out,
         b"clear_run_in",
         words.len() as u64,
         child as u64,
@@ -400,8 +425,9 @@ fn clear_run_in(words: &mut [u64], child: usize, at: usize) {
     );
 }
 
-fn fresh_word_in(words: &mut [u64], at: usize) {
+fn fresh_word_in(out: Stdout, words: &mut [u64], at: usize) {
     line3(
+        out,
         b"fresh_word_in",
         words.len() as u64,
         at as u64,
@@ -409,14 +435,16 @@ fn fresh_word_in(words: &mut [u64], at: usize) {
     );
 }
 
-fn fields_in(words: &[u64], child: usize) {
+fn fields_in(out: Stdout, words: &[u64], child: usize) {
     line3(
+        out,
         b"zero_bits_in",
         words.len() as u64,
         child as u64,
         zeros(lower::zero_bits(words, child)),
     );
     line3(
+        out,
         b"field_empty_in",
         words.len() as u64,
         child as u64,
@@ -424,6 +452,7 @@ fn fields_in(words: &[u64], child: usize) {
     );
     let mut children = [1];
     line3(
+        out,
         b"recount_in",
         words.len() as u64,
         child as u64,
@@ -431,55 +460,56 @@ fn fields_in(words: &[u64], child: usize) {
     );
 }
 
-fn of_children(children: &mut [u16], at: usize) {
-    claim_in(children, at);
-    take_huge_in(children, at);
-    give_count_in(children, at);
-    clear_huge_in(children, at);
-    looks_in(children, at);
-    fresh_child_in(children, at);
+fn of_children(out: Stdout, children: &mut [u16], at: usize) {
+    claim_in(out, children, at);
+    take_huge_in(out, children, at);
+    give_count_in(out, children, at);
+    clear_huge_in(out, children, at);
+    looks_in(out, children, at);
+    fresh_child_in(out, children, at);
 }
 
-fn of_words(words: &mut [u64], child: usize, at: usize) {
-    take_run_in(words, child, at);
-    clear_run_in(words, child, at);
-    fields_in(words, child);
-    fresh_word_in(words, at);
+fn of_words(out: Stdout, words: &mut [u64], child: usize, at: usize) {
+    take_run_in(out, words, child, at);
+    clear_run_in(out, words, child, at);
+    fields_in(out, words, child);
+    fresh_word_in(out, words, at);
 }
 
-fn children_of(at: usize) {
+fn children_of(out: Stdout, at: usize) {
     let mut none: [u16; 0] = [];
-    of_children(&mut none, at);
+    of_children(out, &mut none, at);
     let mut one = [512];
-    of_children(&mut one, at);
+    of_children(out, &mut one, at);
     let mut two = [512, 512];
-    of_children(&mut two, at);
+    of_children(out, &mut two, at);
 }
 
-fn words_of() {
+fn words_of(out: Stdout) {
     let mut none: [u64; 0] = [];
-    of_words(&mut none, 0, 0);
+    of_words(out, &mut none, 0, 0);
     let mut short = [0; 7];
-    of_words(&mut short, 0, 0);
+    of_words(out, &mut short, 0, 0);
     let mut right = [0; 8];
-    of_words(&mut right, 0, 0);
-    of_words(&mut right, 0, 7);
-    of_words(&mut right, 0, 8);
-    of_words(&mut right, 1, 0);
+    of_words(out, &mut right, 0, 0);
+    of_words(out, &mut right, 0, 7);
+    of_words(out, &mut right, 0, 8);
+    of_words(out, &mut right, 1, 0);
     let mut long = [0; 9];
-    of_words(&mut long, 0, 0);
-    of_words(&mut long, 1, 0);
-    of_words(&mut long, 1, 9);
+    of_words(out, &mut long, 0, 0);
+    of_words(out, &mut long, 1, 0);
+    of_words(out, &mut long, 1, 9);
 }
 
 // ---- the plain search: the first child is taken whole, the second full below a count, the third has its last two bits
 
-fn search(start: usize, second: u16, third: u16, run: Run) {
+fn search(out: Stdout, start: usize, second: u16, third: u16, run: Run) {
     let mut children = [0x8000, second, third];
     let mut words = [u64::MAX; 24];
     words[23] = 0x3fff_ffff_ffff_ffff;
     let said = searched(lower::search(&mut children, &mut words, start, run));
     line5(
+        out,
         b"search",
         wide(rules::frames_of(run)),
         start as u64,
@@ -488,6 +518,7 @@ fn search(start: usize, second: u16, third: u16, run: Run) {
         said,
     );
     line4(
+        out,
         b"leaves",
         wide(children[0]),
         wide(children[1]),
@@ -496,27 +527,31 @@ fn search(start: usize, second: u16, third: u16, run: Run) {
     );
 }
 
-fn searches(start: usize) {
-    search(start, 0, 2, Run::One);
-    search(start, 1, 2, Run::One);
-    search(start, 1, 0, Run::One);
-    search(start, 513, 2, Run::One);
+fn searches(out: Stdout, start: usize) {
+    search(out, start, 0, 2, Run::One);
+    search(out, start, 1, 2, Run::One);
+    search(out, start, 1, 0, Run::One);
+    search(out, start, 513, 2, Run::One);
 }
 
-fn search_short() {
+fn search_short(out: Stdout) {
     let mut children = [1, 1];
     let mut words = [0; 15];
-    name(b"search_short");
-    number(searched(lower::search(&mut children, &mut words, 0, Run::One)));
-    end();
+    name(out, b"search_short");
+    number(
+        out,
+        searched(lower::search(&mut children, &mut words, 0, Run::One)),
+    );
+    end(out);
 }
 
 // ---- one child more than a zone has
 
-fn too_many() {
+fn too_many(out: Stdout) {
     let mut children = [1; 65537];
     let mut words = [0; 8];
     line3(
+        out,
         b"too_many",
         summed(lower::sum(&children)),
         summed(lower::sum(&children[..65536])),
@@ -524,41 +559,42 @@ fn too_many() {
     );
 }
 
-fn main() {
-    entry(0);
-    entry(1);
-    entry(511);
-    entry(512);
-    entry(513);
-    entry(0x8000);
-    entry(0x8001);
-    entry(0x81ff);
-    entry(0x8200);
-    entry(0x8201);
-    entry(0x0400);
-    entry(0xffff);
-    word(0);
-    word(FULL);
-    word(FIRST);
-    word(LAST);
-    runs(0);
-    runs(FULL);
-    runs(1);
-    runs(TOP);
-    runs(PAIR);
-    runs(NO_PAIR);
-    runs(ENDS);
-    clear_runs();
-    children_of(0);
-    children_of(1);
-    children_of(2);
-    words_of();
-    searches(0);
-    searches(1);
-    searches(2);
-    searches(3);
-    search(1, 2, 2, Run::Two);
-    search(1, 2, 4, Run::Four);
-    search_short();
-    too_many();
+fn main(rt: HostRuntime) {
+    let out = rt.stdout();
+    entry(out, 0);
+    entry(out, 1);
+    entry(out, 511);
+    entry(out, 512);
+    entry(out, 513);
+    entry(out, 0x8000);
+    entry(out, 0x8001);
+    entry(out, 0x81ff);
+    entry(out, 0x8200);
+    entry(out, 0x8201);
+    entry(out, 0x0400);
+    entry(out, 0xffff);
+    word(out, 0);
+    word(out, FULL);
+    word(out, FIRST);
+    word(out, LAST);
+    runs(out, 0);
+    runs(out, FULL);
+    runs(out, 1);
+    runs(out, TOP);
+    runs(out, PAIR);
+    runs(out, NO_PAIR);
+    runs(out, ENDS);
+    clear_runs(out);
+    children_of(out, 0);
+    children_of(out, 1);
+    children_of(out, 2);
+    words_of(out);
+    searches(out, 0);
+    searches(out, 1);
+    searches(out, 2);
+    searches(out, 3);
+    search(out, 1, 2, 2, Run::Two);
+    search(out, 1, 2, 4, Run::Four);
+    search_short(out);
+    too_many(out);
 }

@@ -9,9 +9,9 @@ ghost use Rattle.calls.specs.Results.{zone, ran_to};
 ghost use Rattle.frames.specs.Requests.{fuel, begun_by, replied};
 
 use calls::{Ended, Next};
-use libc::{STDIN_FILENO, STDOUT_FILENO};
 use requests::{Line, Number, Reading, Scanned};
 use rules::{Answer, Frame};
+use std::io::{Print, Read, Stdin, Stdout};
 
 const MOST_HUGE: u64 = 256;
 
@@ -26,9 +26,10 @@ const FUEL: u64 = 1000000;
 
 // ---- output: a buffer of 65,536 bytes, written when it is full and at the end
 
-// How many bytes wait, and whether every write so far went well.
+// Where they go, how many bytes wait, and whether every write so far went well.
 #[derive(Clone, Copy)]
 struct Out {
+    stdout: Stdout,
     waiting: u16,
     works: bool,
 }
@@ -38,7 +39,7 @@ fn write_full(buffer: &[u8; 65536], out: Out) -> bool {
     if !out.works {
         return false;
     }
-    io::write_all(STDOUT_FILENO, buffer)
+    out.stdout.write_all(buffer).is_ok()
 }
 
 fn put_byte(buffer: &mut [u8; 65536], out: Out, byte: u8) -> Out {
@@ -46,11 +47,13 @@ fn put_byte(buffer: &mut [u8; 65536], out: Out, byte: u8) -> Out {
     buffer[at as usize] = byte;
     if at == 65535 {
         return Out {
+            stdout: out.stdout,
             waiting: 0,
             works: write_full(buffer, out),
         };
     }
     Out {
+        stdout: out.stdout,
         waiting: at + 1,
         works: out.works,
     }
@@ -112,8 +115,8 @@ fn finish(buffer: &[u8], out: Out) {
     if !out.works {
         return;
     }
-    let n = io::count(out.waiting as isize, buffer);
-    io::write_all(STDOUT_FILENO, &buffer[..n]);
+    let n = buffer.len().min(out.waiting as usize);
+    let _ = out.stdout.write_all(&buffer[..n]);
 }
 
 // ---- input, in pieces of 65,536 bytes
@@ -121,7 +124,7 @@ fn finish(buffer: &[u8], out: Out) {
 // What the last read answered, and where its next line begins.
 #[derive(Clone, Copy)]
 struct Piece {
-    got: isize,
+    got: usize,
     next: usize,
 }
 
@@ -143,15 +146,23 @@ fn last_line(reading: Reading) -> Lined {
     }
 }
 
+// The bytes of the next piece: 0 at the end, and where a read failed.
+fn read_piece(mut stdin: Stdin, input: &mut [u8]) -> usize {
+    match stdin.read(input) {
+        Ok(got) => got,
+        Err(_) => 0,
+    }
+}
+
 // The next line; nothing, where the input ends or has a line of another form. The turns are counted, from a number that no input uses up: a loop has to
 // end, and nothing says that the input does.
-fn next_line(input: &mut [u8], from: Piece) -> Lined {
+fn next_line(stdin: Stdin, input: &mut [u8], from: Piece) -> Lined {
     let mut got = from.got;
     let mut next = from.next;
     let mut reading = Reading::Start;
     let mut turns = u64::MAX;
     while turns > 0 {
-        let n = io::count(got, input);
+        let n = input.len().min(got);
         match requests::scan(&input[..n], next, reading) {
             Scanned::Whole { line, next: after } => {
                 return Lined::Line {
@@ -166,8 +177,8 @@ fn next_line(input: &mut [u8], from: Piece) -> Lined {
                 return Lined::Nothing;
             }
         }
-        got = libc::read(STDIN_FILENO, input);
-        if got <= 0 {
+        got = read_piece(stdin, input);
+        if got == 0 {
             return last_line(reading);
         }
         next = 0;
@@ -267,6 +278,7 @@ fn serve(
     children: &mut [u16],
     trees: &mut [u16],
     cpus: &mut [u64],
+    stdin: Stdin,
     input: &mut [u8],
     from: Piece,
     buffer: &mut [u8; 65536],
@@ -276,7 +288,7 @@ fn serve(
     let mut after = out;
     let mut turns = u64::MAX;
     while turns > 0 {
-        let Lined::Line { line, rest: left } = next_line(input, rest) else {
+        let Lined::Line { line, rest: left } = next_line(stdin, input, rest) else {
             return after;
         };
         match reply(header, words, children, trees, cpus, line, buffer, after) {
@@ -319,6 +331,7 @@ fn session(
     trees: &mut [u16],
     cpus: &mut [u64],
     huge: u64,
+    stdin: Stdin,
     input: &mut [u8],
     from: Piece,
     buffer: &mut [u8; 65536],
@@ -326,19 +339,20 @@ fn session(
 ) {
     create(header, words, children, trees, cpus, huge);
     let after = serve(
-        header, words, children, trees, cpus, input, from, buffer, out,
+        header, words, children, trees, cpus, stdin, input, from, buffer, out,
     );
     finish(buffer, after);
 }
 
 // A zone of the size that the first line names, with tables of its lengths.
-fn zone_of(input: &mut [u8], from: Piece, huge: Number, cpus: Number)
+fn zone_of(rt: HostRuntime, input: &mut [u8], from: Piece, huge: Number, cpus: Number)
     requires { (huge.value ≤ 256) × (cpus.value ≤ 8) }
 {
     let mut buffer = io::large_buffer();
     let out = put_zone(
         &mut buffer,
         Out {
+            stdout: rt.stdout(),
             waiting: 0,
             works: true,
         },
@@ -361,6 +375,7 @@ fn zone_of(input: &mut [u8], from: Piece, huge: Number, cpus: Number)
         &mut trees_table[..trees],
         &mut cpus_table[..entries],
         huge.value,
+        rt.stdin(),
         input,
         from,
         &mut buffer,
@@ -368,7 +383,7 @@ fn zone_of(input: &mut [u8], from: Piece, huge: Number, cpus: Number)
     );
 }
 
-fn first_line(input: &mut [u8], from: Piece, line: Line) {
+fn first_line(rt: HostRuntime, input: &mut [u8], from: Piece, line: Line) {
     match line {
         Line::Zone { huge, cpus } => {
             if huge.value == 0 {
@@ -383,7 +398,7 @@ fn first_line(input: &mut [u8], from: Piece, line: Line) {
             if MOST_CPUS < cpus.value {
                 return;
             }
-            zone_of(input, from, huge, cpus);
+            zone_of(rt, input, from, huge, cpus);
         }
         Line::Get { cpu: _, order: _ } => {}
         Line::Put {
@@ -394,10 +409,11 @@ fn first_line(input: &mut [u8], from: Piece, line: Line) {
     }
 }
 
-fn main() {
+fn main(rt: HostRuntime) {
     let mut input = io::large_buffer();
-    let Lined::Line { line, rest } = next_line(&mut input, Piece { got: 0, next: 0 }) else {
+    let Lined::Line { line, rest } = next_line(rt.stdin(), &mut input, Piece { got: 0, next: 0 })
+    else {
         return;
     };
-    first_line(&mut input, rest, line);
+    first_line(rt, &mut input, rest, line);
 }

@@ -5,4 +5,4 @@ pub returns-then-rec-ne-RECORD : goal.returns-then-rec-ne-RECORD
 returns-then-rec-ne-RECORD c = made_not _ _ _ _ c.if-rec-ne-RECORD.true c.no_record.ensures c.told.ensures
 
 pub returns : goal.returns
-returns c = made_so _ _ _ _ c.if-rec-ne-RECORD.false c.before.before.before.before.before.before.before.«open».ensures c.hand_back.ensures c.told-2.ensures
+returns c = made_so _ _ _ _ c.if-rec-ne-RECORD.false c.open-answer.ensures c.hand_back.ensures c.told-2.ensures

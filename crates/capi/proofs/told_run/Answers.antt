@@ -1,11 +1,20 @@
-use mathlib.Core.Path.{ap, ◌∙◌}
-use mathlib.Core.Logic.{⊎_elim}
+use mathlib.Core.Path.{◌≡◌, ap, ◌∙◌}
 use lib.ListN.{length}
+use Rattle.capi.specs.Calls.{handed_back}
 use Rattle.capi.proofs.Calls.{laid_length, back_next, back_last, run_told}
 use Rattle.capi.proofs.told_run.Goals as goal
+use Rattle.capi.proofs.told_run.Goals.{in-GoesOn, in-Ends}
 
 pub shape_of-rec : goal.shape_of-rec
-shape_of-rec c = ⊎_elim (λ w. ap length (w.7 ∙ w.4.ensures) ∙ laid_length _ _) (λ w. ap length (w.6 ∙ w.3.ensures) ∙ laid_length _ _) c.match-next_of.branch
+shape_of-rec c = elim c.match-next_of.branch [
+  | in-GoesOn w ↦ ap length (w.rec-is ∙ w.lay.ensures) ∙ laid_length _ _
+  | in-Ends w ↦ ap length (w.rec-is ∙ w.lay_finished.ensures) ∙ laid_length _ _
+]
 
 pub returns : goal.returns
-returns c = run_told c.args.answer c.number_of.ensures c.frame_of.ensures (⊎_elim (λ w. back_next c.args.answer _ c.next_of.ensures w.1.given.1 (w.7 ∙ w.4.ensures)) (λ w. back_last c.args.answer _ c.next_of.ensures w.1.given.1 (w.6 ∙ w.3.ensures)) c.match-next_of.branch)
+returns c =
+    let b : c.match-next_of.rec ≡ handed_back c.args.answer c.args.rec.now = elim c.match-next_of.branch [
+      | in-GoesOn w ↦ back_next c.args.answer _ c.next_of.ensures w.in-GoesOn.is (w.rec-is ∙ w.lay.ensures)
+      | in-Ends w ↦ back_last c.args.answer _ c.next_of.ensures w.in-Ends.is (w.rec-is ∙ w.lay_finished.ensures)
+    ] in
+    run_told c.args.answer c.number_of.ensures c.frame_of.ensures b
