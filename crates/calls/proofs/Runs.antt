@@ -8,7 +8,7 @@ use Rattle.rules.specs.Plan.{Plan}
 use Rattle.rules.specs.Answers.{number, ends, goes_on, next_of}
 use Rattle.rules.specs.Step.{ran, follow}
 use Rattle.rules.proofs.Histories.{answer_elim}
-use Rattle.calls.specs.Types.{Record, Answer, Next, Way}
+use Rattle.calls.specs.Types.{Record, Answer, Next}
 use Rattle.calls.specs.Results.{Result, result_of, done, next_in, way_by, way_of, went_to}
 
 -- what the next record tells of the answer

@@ -2,7 +2,7 @@
 use mathlib.Core.Path.{◌≡◌, refl, sym, ap, ◌∙◌, subst}
 use mathlib.Core.Logic.{◌⊎◌, inl, inr}
 use mathlib.Core.List.{List, [], ◌∷◌, ◌++◌}
-use Prim.Native.Nat.{ℕ, zero, suc, ◌+◌, ◌<◌}
+use Prim.Native.Nat.{ℕ, zero, suc, ◌<◌}
 use native.Mathlib.Omega.{arith}
 use native.Mathlib.Decide.{ℕ_discrete, dec_lt}
 use lib.ListN.{length}
@@ -20,7 +20,7 @@ use Rattle.rules.specs.Step.{step}
 use Rattle.rules.specs.Events.{Begun, idle, getting, putting, Cpu, resting, unless_cleared, lost_by, lost_of, lost_all, Phase, ready, down, opening, State, cpus_of, Call, get, put, step_of, close, open_first, open_later, order_of_block, planned, stored_by, handed, with_phase, cut_off, answered_by, Event, call, cut, cut_in, next, Called, Admitted, Reach, start, then}
 use Rattle.rules.specs.Promise.{owned_by, Loses, gathered, Lost}
 use Rattle.rules.proofs.Shares.{Proper, OfOrder, AgreesWith, Agrees}
-use Rattle.rules.proofs.Invariant.{BlockIn, AllIn, Up, Fine, answered}
+use Rattle.rules.proofs.Invariant.{BlockIn, AllIn, Up, Fine}
 use Rattle.rules.proofs.Phases.{still}
 use Rattle.rules.proofs.Turns.{in_table, stepped, as_many}
 use Rattle.rules.proofs.Histories.{Phased, Holds, in_phase, inside_append, answer_elim, reached}

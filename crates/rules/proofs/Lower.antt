@@ -1,6 +1,5 @@
 -- The lower level's laws: what its steps say, and what they make of an entry. What stands above knows no more of words and children.
 use mathlib.Core.Path.{◌≡◌, refl, sym}
-use mathlib.Core.List.{[]}
 use Prim.Native.Nat.{ℕ, ◌+◌, ◌-◌, ◌*◌, ◌/◌, ◌^◌, ◌≤◌, ◌<◌}
 use native.Mathlib.Omega.{arith}
 use lib.Dec.{eqb, leb, ltb}

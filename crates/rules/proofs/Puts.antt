@@ -20,7 +20,7 @@ use Rattle.rules.specs.Blocks.{run_size, size_of, first_of, tree_of_block, child
 use Rattle.rules.specs.Entries.{holds_checks}
 use Rattle.rules.specs.Lower.{child_says, count_word, clear_run}
 use Rattle.rules.specs.Zone.{Zone, Store, nothing, shaped}
-use Rattle.rules.specs.Plan.{plain, clears, Plan, says, Made, look, store, by_cpu, to_cpu, to_word, on_gave, carried}
+use Rattle.rules.specs.Plan.{plain, clears, Plan, says, Made, look, by_cpu, to_cpu, to_word, on_gave, carried}
 use Rattle.rules.specs.Ranges.{block_in, giving_in}
 use Rattle.rules.specs.Give.{put, clear, give}
 use Rattle.rules.specs.Events.{Cpu, unless_cleared, lost_by, handed}

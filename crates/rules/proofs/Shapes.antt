@@ -1,6 +1,6 @@
 -- A shape's trees and children: the laws of tree arithmetic, for `trees_of` and `children_of`.
 use mathlib.Core.Path.{◌≡◌, sym, ap, ◌∙◌}
-use Prim.Native.Nat.{ℕ, ◌+◌, ◌-◌, ◌*◌, ◌/◌, ◌%◌, ◌≤◌, ◌<◌}
+use Prim.Native.Nat.{ℕ, ◌+◌, ◌*◌, ◌/◌, ◌%◌, ◌≤◌, ◌<◌}
 use native.Mathlib.Omega.{arith}
 use Rattle.laws.specs.Sum.{sum_to, at}
 use Rattle.laws.proofs.Sum.{sum_single, sum_zero, at_same, at_other, here, elsewhere, placed}

@@ -15,7 +15,7 @@ use Rattle.laws.proofs.Words.{bits_taken, some_free}
 use Rattle.laws.proofs.Parts.{part_at}
 use Rattle.rules.specs.Types.{Tree, Run, Order, Block, ChildEntry, TreeEntry, CpuEntry, Took, Bit, Gave, Place, Taking, Giving, Record, Answer}
 use Rattle.rules.specs.Numbers.{child_frames, child_words, Shape, per_tree, trees_of, children_of, capacity}
-use Rattle.rules.specs.Conversions.{tree, huge}
+use Rattle.rules.specs.Conversions.{tree}
 use Rattle.rules.specs.Blocks.{run_size, size, size_of, tree_of_block, child_of_block, huge_of_block}
 use Rattle.rules.specs.Answers.{number}
 use Rattle.rules.specs.Entries.{holds_checks}

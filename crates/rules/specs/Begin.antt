@@ -1,5 +1,5 @@
 -- Beginnings: 9, 10, 8, 7, 3, 4, 5. A refused beginning begins nothing.
-use Rattle.std.specs.Prelude.{Bool, true, not, [], ◌∷◌, ◌++◌, ℕ, ◌+◌, ◌*◌, ◌%◌, eqb, leb, ltb}
+use Rattle.std.specs.Prelude.{Bool, true, not, [], ◌∷◌, ◌++◌, ℕ, ◌*◌, ◌%◌, eqb, leb, ltb}
 use Rattle.laws.specs.Tests.{pick}
 use Rattle.rules.specs.Numbers.{child_frames}
 use Rattle.rules.specs.Blocks.{exponent, size, block_at}

@@ -1,5 +1,5 @@
 -- Packed entries: split after join gives the fields, join after split the word; what is stored is read again; and what "breaks its layout" means.
-use Rattle.std.specs.Prelude.{◌≡◌, ◌⊎◌, ◌↔◌, List, [], ℕ, ◌+◌, ◌*◌, ◌^◌, ◌≤◌, ◌<◌}
+use Rattle.std.specs.Prelude.{◌≡◌, ◌⊎◌, ◌↔◌, List, ℕ, ◌+◌, ◌*◌, ◌^◌, ◌≤◌, ◌<◌}
 use Rattle.laws.specs.Tests.{Passes}
 use Rattle.laws.specs.Fields.{width, split, join, Fit}
 use Rattle.rules.specs.Types.{Tree, Header, ChildEntry, TreeEntry, CpuEntry}

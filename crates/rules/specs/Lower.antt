@@ -1,5 +1,5 @@
 -- The lower level: one child entry, one word, a tree's part of both. What a child says, and how a rule changes a child or a word, stands here alone: the rules above name the entry and cite these definitions.
-use Rattle.std.specs.Prelude.{Bool, true, false, List, [], ◌∷◌, ℕ, zero, suc, ◌+◌, ◌-◌, ◌*◌, ◌/◌, ◌^◌, eqb, leb, ltb, get_or}
+use Rattle.std.specs.Prelude.{Bool, true, false, List, [], ◌∷◌, ℕ, suc, ◌+◌, ◌-◌, ◌*◌, ◌/◌, ◌^◌, eqb, leb, ltb, get_or}
 use Rattle.laws.specs.Tests.{pick, ◌below◌, ◌is◌, passes}
 use Rattle.laws.specs.Sum.{sum_to}
 use Rattle.laws.specs.Fields.{join}

@@ -1,5 +1,5 @@
 -- Which numbers a record may hold: outside of them, and at a finished or another operation's record, a step answers 11 (D1, D27 to D29).
-use Rattle.std.specs.Prelude.{List, [], ◌∷◌, ◌++◌, ℕ, suc, ◌+◌, ◌*◌, ◌/◌, ◌%◌}
+use Rattle.std.specs.Prelude.{List, [], ◌∷◌, ◌++◌, ℕ, suc, ◌*◌, ◌/◌, ◌%◌}
 use Rattle.laws.specs.Tests.{Check, ◌below◌, ◌is◌, ◌isnt◌}
 use Rattle.rules.specs.Numbers.{child_frames, child_words, near_trees, Shape, trees_of, children_of, capacity}
 use Rattle.rules.specs.Blocks.{run_size}

@@ -1,5 +1,5 @@
 -- A zone's five tables, the entries that a step reads, and the one that it stores.
-use Rattle.std.specs.Prelude.{List, [], ℕ, ◌*◌, length, get_or, set}
+use Rattle.std.specs.Prelude.{List, ℕ, ◌*◌, length, get_or, set}
 use Rattle.laws.specs.Parts.{part}
 use Rattle.rules.specs.Numbers.{child_words, Format, format1, Shape, per_tree, children_of}
 use Rattle.rules.specs.Entries.{header_says, tree_says, tree_word, cpu_says, cpu_word}

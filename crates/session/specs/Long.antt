@@ -1,5 +1,5 @@
 -- One huge frame and one CPU: 512 gets answer 0 to 511, the next 2; frame 7 is put, and the next get answers 7.
-use Rattle.std.specs.Prelude.{◌≡◌, List, [], ◌∷◌, ◌++◌, ℕ, zero, suc, ◌+◌, take, drop, replicate}
+use Rattle.std.specs.Prelude.{◌≡◌, List, [], ◌∷◌, ◌++◌, ℕ, zero, suc, take, drop, replicate}
 use Rattle.rules.specs.Fresh.{fresh}
 use Rattle.rules.specs.Worked.{g, p, Line, line, session, small}
 

@@ -1,5 +1,4 @@
 use mathlib.Core.Path.{◌∙◌}
-use Prim.Native.Nat.{◌-◌}
 use native.Mathlib.Omega.{arith}
 use Rattle.looks.specs.Looks.{children_formed_in}
 use Rattle.looks.proofs.Loops.{none_yet, one_more, one_fails, all_done}

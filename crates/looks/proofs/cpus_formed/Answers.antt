@@ -1,5 +1,4 @@
 use mathlib.Core.Path.{refl, ◌∙◌}
-use Prim.Native.Nat.{◌-◌}
 use native.Mathlib.Omega.{arith}
 use Rattle.rules.specs.Open.{cpus_formed}
 use Rattle.looks.specs.Looks.{cpus_formed_in}

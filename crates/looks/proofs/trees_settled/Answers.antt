@@ -1,5 +1,4 @@
 use mathlib.Core.Path.{refl, ◌∙◌}
-use Prim.Native.Nat.{◌-◌}
 use native.Mathlib.Omega.{arith}
 use Rattle.looks.specs.Looks.{trees_settled_in}
 use Rattle.looks.proofs.Loops.{none_yet, one_more, one_fails, all_done, lacks, has}

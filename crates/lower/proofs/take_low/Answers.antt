@@ -1,4 +1,3 @@
-use Prim.Native.Nat.{◌-◌}
 use Rattle.lower.proofs.Leaf.{passed_start, passed_all, passed_found, passed_more}
 use Rattle.lower.proofs.take_low.Goals as goal
 

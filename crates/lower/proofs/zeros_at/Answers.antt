@@ -1,5 +1,5 @@
 use mathlib.Core.Path.{◌≡◌, ap, ◌∙◌}
-use Prim.Native.Nat.{◌+◌, ◌-◌}
+use Prim.Native.Nat.{◌+◌}
 use native.Mathlib.Omega.{arith}
 use Rattle.rules.specs.Numbers.{child_words}
 use Rattle.lower.proofs.Leaf.{zeros_to, zeros_none, zeros_more, zeros_all, zeros_bound}

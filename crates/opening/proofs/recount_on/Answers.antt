@@ -1,5 +1,4 @@
 use mathlib.Core.Path.{refl, ◌∙◌}
-use Prim.Native.Nat.{◌-◌}
 use borrow.Author.Rules.{rules}
 use Rattle.calls.specs.Results.{went_to}
 use Rattle.opening.proofs.Recounts.{none_ends, no_field_ends, damaged_ends, goes_on_lem, goes_to_trees}

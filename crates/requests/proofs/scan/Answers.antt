@@ -1,5 +1,4 @@
 use mathlib.Core.Path.{refl, sym, ◌∙◌}
-use Prim.Native.Nat.{◌-◌}
 use Rattle.requests.proofs.Scans.{scan_out, scan_goes, scan_whole, scan_fails}
 use Rattle.requests.proofs.scan.Goals as goal
 
