@@ -2,10 +2,8 @@
 use mathlib.Core.Path.{◌≡◌, refl, sym, ap, subst, ◌∙◌}
 use mathlib.Core.Bool.{Bool, true, false}
 use mathlib.Core.List.{List, ◌++◌}
-use mathlib.Core.Logic.{◌⊎◌, ⊎_elim}
 use Prim.Native.Nat.{ℕ, ◌+◌, ◌-◌, ◌≤◌, ◌<◌}
 use native.Mathlib.Omega.{arith}
-use denote.Enum.Declared.{tag_of}
 use Rattle.laws.specs.Tests.{passes, Passes}
 use Rattle.laws.specs.Tables.{Outcome, outcome}
 use Rattle.laws.proofs.Tests.{pick_no, all_passed}
@@ -18,9 +16,7 @@ use Rattle.rules.specs.Lower.{give_count, clear_huge}
 use Rattle.rules.specs.Plan.{plain, clears, Made, Tally, cpu_entry, tree_entry, child_entry, word_entry}
 use Rattle.rules.specs.Give.{clear, give}
 use Rattle.rules.specs.Step.{act, step, Ran, follow}
-use Rattle.rules.specs.contracts.Gave as Gaves
 use Rattle.lower.specs.Steps.{give_in, clear_huge_in, clear_run_in}
-use Rattle.lower.specs.contracts.Given as Givens
 use Rattle.entries.specs.Steps.{add_count_in}
 use Rattle.cpu_entries.specs.Steps.{add_own_in}
 use Rattle.places.specs.Shapes.{shape_of, ranged}
