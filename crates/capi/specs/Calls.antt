@@ -5,7 +5,7 @@ use Rattle.rules.specs.Numbers.{format1, trees_of}
 use Rattle.rules.specs.Zone.{Zone, header_of}
 use Rattle.rules.specs.Answers.{number, frame_of, record_of}
 use Rattle.rules.specs.Plan.{Plan, refuse, on, guarded}
-use Rattle.rules.specs.Checks.{unless, is_clean, no_header, not_aZone}
+use Rattle.rules.specs.Checks.{unless, is_clean, no_header, not_a_zone}
 use Rattle.rules.specs.Conversions.{frame}
 use Rattle.rules.specs.Begin.{begin_get, begin_put}
 use Rattle.rules.specs.Create.{size_checks, create_zone, create_step}
@@ -54,7 +54,7 @@ handed_back a l = laid (record_of a) l
 
 -- h is the header slice; e is answered to a closed zone, which open alone does not refuse
 unfoldable pub no_record : Answer → List ℕ → Answer
-no_record e h = let z : Zone = zone h [] [] [] [] in (guarded (no_header z ∷ not_aZone z ∷ on (is_clean (header_of z)) e ∷ []) (refuse Answer.BadBuffers)).answer
+no_record e h = let z : Zone = zone h [] [] [] [] in (guarded (no_header z ∷ not_a_zone z ∷ on (is_clean (header_of z)) e ∷ []) (refuse Answer.BadBuffers)).answer
 
 unfoldable pub no_create_record : ℕ → Answer
 no_create_record n = (guarded (unless (size_checks n) Answer.BadSize ∷ []) (refuse Answer.BadBuffers)).answer

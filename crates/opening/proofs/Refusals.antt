@@ -12,7 +12,7 @@ use Rattle.rules.specs.declared.Header.{Header}
 use Rattle.rules.specs.Entries.{header_says}
 use Rattle.rules.specs.Zone.{Zone, header_of, header_huge, shaped, shape_of}
 use Rattle.rules.specs.Plan.{Plan, refuse, Refusal, guarded}
-use Rattle.rules.specs.Checks.{is_malformed, is_running, header_checks, no_header, not_aZone, bad_buffers}
+use Rattle.rules.specs.Checks.{is_malformed, is_running, header_checks, no_header, not_a_zone, bad_buffers}
 use Rattle.rules.proofs.Bounds.{header_sized}
 use Rattle.rules.proofs.Ways.{allowed}
 use Rattle.entries.specs.Sizes.{by_header, zoned_in}
@@ -39,7 +39,7 @@ module _ (h w c t p : List ℕ) where
 
   -- 8 for the header slice, 9, 8
   abbrev first : List Refusal
-  first = no_header z ∷ not_aZone z ∷ bad_buffers (shape_of z) z ∷ []
+  first = no_header z ∷ not_a_zone z ∷ bad_buffers (shape_of z) z ∷ []
 
   -- what is left of them where the header's entry says d
   abbrev guarded_by : Header → Plan → Plan

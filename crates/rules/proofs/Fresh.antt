@@ -20,7 +20,7 @@ use Rattle.rules.specs.Entries.{running, header_word, tree_word, cpu_word}
 use Rattle.rules.specs.Lower.{well_formed, count_in, recount, part_sum}
 use Rattle.rules.specs.Zone.{Zone, header_of, header_huge, shape_of, Store, stored}
 use Rattle.rules.specs.Plan.{Plan, says, Refusal, guarded}
-use Rattle.rules.specs.Checks.{header_checks, length_checks, is_malformed, is_clean, is_running, no_header, not_aZone}
+use Rattle.rules.specs.Checks.{header_checks, length_checks, is_malformed, is_clean, is_running, no_header, not_a_zone}
 use Rattle.rules.specs.Ranges.{opening_in, open_range}
 use Rattle.rules.specs.Begin.{begin_get, begin_put}
 use Rattle.rules.specs.Step.{step, after}
@@ -51,8 +51,8 @@ unborn : (z : Zone) → z.header ≡ 0 ∷ [] → Unborn z
 unfolding begin_get begin_put step open_zone open_step close_zone
 unborn z e = record { get = λ cpu o. refused _ _; put = λ cpu f o. refused _ _; step = λ r. refused _ _; opens = refused _ _; open_step = λ r. refused _ _; close = refused _ _ }
   where
-    refused : (l : List Refusal) (p : Plan) → (guarded (no_header z ∷ (not_aZone z ∷ l)) p).answer ≡ Answer.NotAZone
-    refused l p = second_refuses (no_header z) (not_aZone z) l p (allowed (header_checks z) (ap length e, tt)) (zero_malformed z e)
+    refused : (l : List Refusal) (p : Plan) → (guarded (no_header z ∷ (not_a_zone z ∷ l)) p).answer ≡ Answer.NotAZone
+    refused l p = second_refuses (no_header z) (not_a_zone z) l p (allowed (header_checks z) (ap length e, tt)) (zero_malformed z e)
 
 -- a child as its tree's part holds it
 pub child_at_lem : (g : Shape) → 0 < per_tree g → (z : Zone) (i : ℕ) → i < g.huge → child_at g z (huge i) ≡ get_or z.children i 0

@@ -34,8 +34,8 @@ length_checks g z = length z.words is child_words * g.huge ∷ length z.children
 abbrev pub no_header : Zone → Refusal
 no_header z = unless (header_checks z) Answer.BadBuffers
 
-abbrev pub not_aZone : Zone → Refusal
-not_aZone z = on (is_malformed (header_of z)) Answer.NotAZone
+abbrev pub not_a_zone : Zone → Refusal
+not_a_zone z = on (is_malformed (header_of z)) Answer.NotAZone
 
 abbrev pub closed : Zone → Refusal
 closed z = on (is_clean (header_of z)) Answer.Closed
@@ -45,4 +45,4 @@ bad_buffers g z = unless (length_checks g z) Answer.BadBuffers
 
 -- what every call on an open zone refuses first
 abbrev pub not_open : Zone → List Refusal
-not_open z = no_header z ∷ not_aZone z ∷ closed z ∷ bad_buffers (shape_of z) z ∷ []
+not_open z = no_header z ∷ not_a_zone z ∷ closed z ∷ bad_buffers (shape_of z) z ∷ []

@@ -8,7 +8,7 @@ use Rattle.rules.specs.Entries.{header_word, running, clean}
 use Rattle.rules.specs.Lower.{well_formed, is_flagged, count_in, recount, zero_bits, empty_field, part_sum}
 use Rattle.rules.specs.Zone.{Zone, header_of, shape_of, child_part, word_part, tree_entry_at, cpu_entry_at, Store}
 use Rattle.rules.specs.Plan.{Plan, says, refuse, on, guarded, by_cpu, by_tree}
-use Rattle.rules.specs.Checks.{unless, no_header, not_aZone, bad_buffers, is_running, not_open}
+use Rattle.rules.specs.Checks.{unless, no_header, not_a_zone, bad_buffers, is_running, not_open}
 use Rattle.rules.specs.Ranges.{open_range}
 use Rattle.rules.specs.Create.{done}
 use Rattle.rules.specs.Types.{Huge, Tree, CpuEntry, Opening, Record, Answer}
@@ -72,7 +72,7 @@ unfoldable pub open_sound : Zone → Bool
 open_sound z = children_formed (shape_of z) z && pick (is_running (header_of z)) (flags_empty (shape_of z) z) true
 
 unfoldable pub open_zone : Zone → Plan
-open_zone z = guarded (no_header z ∷ not_aZone z ∷ bad_buffers (shape_of z) z ∷ on (not (open_sound z)) Answer.Damaged ∷ [])
+open_zone z = guarded (no_header z ∷ not_a_zone z ∷ bad_buffers (shape_of z) z ∷ on (not (open_sound z)) Answer.Damaged ∷ [])
     (says (Store.header (header_word running (shape_of z).huge)) (opening (pick (is_running (header_of z)) (Opening.Children (huge 0)) (Opening.Trees (tree 0)))))
 
 -- a later step refuses 12 for a malformed child that it reads (D23)
