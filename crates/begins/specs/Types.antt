@@ -6,8 +6,7 @@ pub use Rattle.rules.specs.declared.Giving.{Giving}
 pub use Rattle.rules.specs.declared.Record.{Record}
 pub use Rattle.rules.specs.declared.Answer.{Answer}
 pub use Rattle.places.specs.declared.Shape.{Shape}
-pub use Rattle.calls.specs.declared.Checked.{Checked}
-pub use Rattle.begins.specs.declared.OrderAt.{OrderAt}
+pub use Rattle.rules.specs.declared.Block.{Block}
 pub use Rattle.rules.specs.declared.Taking.{Taking}
 pub use Rattle.begins.specs.declared.Getting.{Getting}
 pub use Rattle.begins.specs.declared.Putting.{Putting}

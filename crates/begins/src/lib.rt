@@ -4,46 +4,41 @@
 ghost use Rattle.std.specs.Prelude.{◌≡◌, ◌^◌, ◌<◌};
 ghost use Rattle.rules.specs.Begin.{begin_get, begin_put};
 ghost use Rattle.calls.specs.Results.{zone, result_of, done};
-ghost use Rattle.begins.specs.Orders.{order_at_in};
-ghost use Rattle.begins.specs.Begun.{Gets, Puts, PutsAt};
+ghost use Rattle.begins.specs.Orders.{order_at_in, block_of_in};
+ghost use Rattle.begins.specs.Begun.{Gets, Puts};
 
-use calls::Checked;
 use places::Shape;
-use rules::{Answer, Block, Frame, Giving, Huge, Order, Record, Taking};
+use rules::{Answer, Block, Frame, Giving, Huge, Order, Taking};
 
 const CHILD_FRAMES: u64 = 512;
 
 // Orders 0 to 6.
 const RUNS: u64 = 7;
 
-#[derive(Clone, Copy)]
-enum OrderAt {
-    At(Order),
-    Nowhere,
-}
-
-fn order_at(order: u64) -> OrderAt
+fn order_at(order: u64) -> Option<Order>
     ensures { result ≡ order_at_in order }
 {
     if order < RUNS {
-        return OrderAt::At(Order::Run(rules::run_of(order)));
+        return Some(Order::Run(rules::run_of(order)));
     }
     if order == 9 {
-        return OrderAt::At(Order::Nine);
+        return Some(Order::Nine);
     }
-    OrderAt::Nowhere
+    None
 }
 
 // ---- gets
 
-// What the numbers of a get come to: the refusal, or the zone's shape, the CPU and the order.
+// What the numbers of a get come to: the zone's shape, the CPU and the order.
 #[derive(Clone, Copy)]
-pub enum Getting {
-    Refused(Answer),
-    Of { shape: Shape, cpu: u8, order: Order },
+pub struct Getting {
+    pub shape: Shape,
+    pub cpu: u8,
+    pub order: Order,
 }
 
-// A get's checks: 8 for the header slice, 9, 10, 8, 7, 3.
+// A get's checks: 8 for the header slice, 9, 10, 8, 7, 3. Inlined, as what a put's checks call, for the bar of a get and put in one call (D105).
+#[inline(always)]
 pub fn get_of(
     header: &[u64],
     words: &[u64],
@@ -52,25 +47,19 @@ pub fn get_of(
     cpus: &[u64],
     cpu: u64,
     order: u64,
-) -> Getting
+) -> Result<Getting, Answer>
     ensures { Gets (zone header.now words.now children.now trees.now cpus.now) cpu order result }
 {
-    match calls::check(header, words.len(), children.len(), trees.len(), cpus.len()) {
-        Checked::Refused(answer) => Getting::Refused(answer),
-        Checked::Zone(shape) => {
-            if shape.cpus as u64 <= cpu {
-                return Getting::Refused(Answer::BadCpu);
-            }
-            match order_at(order) {
-                OrderAt::Nowhere => Getting::Refused(Answer::BadOrder),
-                OrderAt::At(known) => Getting::Of {
-                    shape,
-                    cpu: cpu as u8,
-                    order: known,
-                },
-            }
-        }
+    let shape = calls::check(header, words.len(), children.len(), trees.len(), cpus.len())?;
+    if shape.cpus as u64 <= cpu {
+        return Err(Answer::BadCpu);
     }
+    let order = order_at(order).ok_or(Answer::BadOrder)?;
+    Ok(Getting {
+        shape,
+        cpu: cpu as u8,
+        order,
+    })
 }
 
 // Begins a get. Nothing is stored.
@@ -86,50 +75,38 @@ pub fn begin_get(
     ensures { result_of result (zone header.now words.now children.now trees.now cpus.now) ≡ done (zone header.now words.now children.now trees.now cpus.now) (begin_get (zone header.now words.now children.now trees.now cpus.now) cpu order) }
 {
     match get_of(header, words, children, trees, cpus, cpu, order) {
-        Getting::Refused(answer) => answer,
-        Getting::Of {
-            shape: _,
-            cpu: own,
-            order: known,
-        } => Answer::UnderWay(Record::Get {
-            cpu: own,
-            stage: Taking::Own(known),
-        }),
+        Ok(got) => calls::get(got.cpu, Taking::Own(got.order)),
+        Err(answer) => answer,
     }
 }
 
 // ---- puts
 
-// What the numbers of a put come to: the refusal, or the zone's shape, the CPU and the block.
+// What the numbers of a put come to: the zone's shape, the CPU and the block.
 #[derive(Clone, Copy)]
-pub enum Putting {
-    Refused(Answer),
-    Of { shape: Shape, cpu: u8, block: Block },
+pub struct Putting {
+    pub shape: Shape,
+    pub cpu: u8,
+    pub block: Block,
 }
 
-// The put of a frame of the zone, by its order: 5, or the block.
-fn block_of(shape: Shape, cpu: u8, frame: Frame, order: Order) -> Putting
+// The block of a frame of the zone, by its order; 5 where the frame is not the first of one.
+#[inline(always)]
+fn block_of(frame: Frame, order: Order) -> Result<Block, Answer>
     requires { frame.0 < 2 ^ 25 }
-    ensures { PutsAt shape cpu frame order result }
+    ensures { result ≡ block_of_in frame order }
 {
     if frame.0 % places::frames_of(order) as u64 != 0 {
-        return Putting::Refused(Answer::Misaligned);
+        return Err(Answer::Misaligned);
     }
     match order {
-        Order::Run(run) => Putting::Of {
-            shape,
-            cpu,
-            block: Block::Run { run, first: frame },
-        },
-        Order::Nine => Putting::Of {
-            shape,
-            cpu,
-            block: Block::Whole(Huge((frame.0 / CHILD_FRAMES) as u32)),
-        },
+        Order::Run(run) => Ok(Block::Run { run, first: frame }),
+        Order::Nine => Ok(Block::Whole(Huge((frame.0 / CHILD_FRAMES) as u32))),
     }
 }
 
 // A put's checks: 8 for the header slice, 9, 10, 8, 7, 3, 4, 5.
+#[inline(always)]
 pub fn put_of(
     header: &[u64],
     words: &[u64],
@@ -139,26 +116,23 @@ pub fn put_of(
     cpu: u64,
     frame: Frame,
     order: u64,
-) -> Putting
+) -> Result<Putting, Answer>
     ensures { Puts (zone header.now words.now children.now trees.now cpus.now) cpu frame order result }
 {
-    match calls::check(header, words.len(), children.len(), trees.len(), cpus.len()) {
-        Checked::Refused(answer) => Putting::Refused(answer),
-        Checked::Zone(shape) => {
-            if shape.cpus as u64 <= cpu {
-                return Putting::Refused(Answer::BadCpu);
-            }
-            match order_at(order) {
-                OrderAt::Nowhere => Putting::Refused(Answer::BadOrder),
-                OrderAt::At(known) => {
-                    if entries::huge_frames(shape.size) as u64 * CHILD_FRAMES <= frame.0 {
-                        return Putting::Refused(Answer::BadFrame);
-                    }
-                    block_of(shape, cpu as u8, frame, known)
-                }
-            }
-        }
+    let shape = calls::check(header, words.len(), children.len(), trees.len(), cpus.len())?;
+    if shape.cpus as u64 <= cpu {
+        return Err(Answer::BadCpu);
     }
+    let order = order_at(order).ok_or(Answer::BadOrder)?;
+    if entries::huge_frames(shape.size) as u64 * CHILD_FRAMES <= frame.0 {
+        return Err(Answer::BadFrame);
+    }
+    let block = block_of(frame, order)?;
+    Ok(Putting {
+        shape,
+        cpu: cpu as u8,
+        block,
+    })
 }
 
 // Begins a put. Nothing is stored.
@@ -175,14 +149,7 @@ pub fn begin_put(
     ensures { result_of result (zone header.now words.now children.now trees.now cpus.now) ≡ done (zone header.now words.now children.now trees.now cpus.now) (begin_put (zone header.now words.now children.now trees.now cpus.now) cpu frame order) }
 {
     match put_of(header, words, children, trees, cpus, cpu, frame, order) {
-        Putting::Refused(answer) => answer,
-        Putting::Of {
-            shape: _,
-            cpu: own,
-            block,
-        } => Answer::UnderWay(Record::Put {
-            cpu: own,
-            stage: Giving::Clear(block),
-        }),
+        Ok(put) => calls::put(put.cpu, Giving::Clear(put.block)),
+        Err(answer) => answer,
     }
 }

@@ -7,6 +7,7 @@ use native.Mathlib.Omega.{arith}
 use lib.Dec.{eqb}
 use lib.ListN.{length, get_or}
 use borrow.Author.Tests.{eqb-true, eqb-false}
+use Rattle.std.specs.Prelude.{Option, Some, None, Result as OkOr, Ok, Err}
 use Rattle.laws.specs.Tests.{pick, Check, passes}
 use Rattle.laws.proofs.Tests.{pick_elim, pick_yes, pick_no, all_passed, fails_of}
 use Rattle.rules.specs.Numbers.{most_cpus, trees_of}
@@ -20,7 +21,7 @@ use Rattle.rules.proofs.Bounds.{header_sized}
 use Rattle.rules.proofs.Ways.{allowed}
 use Rattle.entries.specs.Sizes.{sized, lengths_of, by_header, zoned_in}
 use Rattle.places.specs.Shapes as Shapes
-use Rattle.calls.specs.Types.{Size, Answer, Zoned, Shape, Checked}
+use Rattle.calls.specs.Types.{Size, Answer, Zoned, Shape}
 use Rattle.calls.specs.Results.{zone, result_of, done, checked_as, checked, Fits}
 
 -- a call that stores nothing leaves the zone as it was
@@ -40,18 +41,18 @@ passed_by x l q e = pick_no _ _ _ e
 -- ---- the refusals of every call on an open zone
 
 -- the checks of a zone's five tables
-abbrev pub checked_in : List ℕ → List ℕ → List ℕ → List ℕ → List ℕ → Checked
+abbrev pub checked_in : List ℕ → List ℕ → List ℕ → List ℕ → List ℕ → OkOr Shape Answer
 checked_in h w c t p = checked h (length w) (length c) (length t) (length p)
 
 -- what the header's entry d says
-abbrev pub zoned_by : Header → Zoned
-zoned_by d = by_header d Zoned.NotAZone (λ n. Zoned.Running (sized n)) (λ n. Zoned.Clean (sized n))
+abbrev pub zoned_by : Option Header → OkOr Zoned Answer
+zoned_by d = by_header d (Err Answer.NotAZone) (λ n. Ok (Zoned.Running (sized n))) (λ n. Ok (Zoned.Clean (sized n)))
 
 module _ (h w c t p : List ℕ) where
   abbrev z : Zone
   z = zone h w c t p
 
-  abbrev checked_by : Zoned → Checked
+  abbrev checked_by : OkOr Zoned Answer → OkOr Shape Answer
   checked_by x = checked_as x (length w) (length c) (length t) (length p)
 
   -- the refusal for the lengths that n huge frames ask for
@@ -59,7 +60,7 @@ module _ (h w c t p : List ℕ) where
   lengths_by n q = pick (not (passes (length_checks (shaped n z) z))) (refuse Answer.BadBuffers) q
 
   -- what is left of them where the header's entry says d
-  abbrev guarded_by : Header → Plan → Plan
+  abbrev guarded_by : Option Header → Plan → Plan
   guarded_by d q = pick (is_malformed d) (refuse Answer.NotAZone) (pick (is_clean d) (refuse Answer.Closed) (lengths_by (header_huge d) q))
 
   -- tables that fit n huge frames, and others: the refusal for their lengths is passed, or it stands
@@ -77,15 +78,15 @@ module _ (h w c t p : List ℕ) where
       (λ b. k (λ q. pick_yes _ _ _ (ap not (e ∙ b))))
 
   -- of n huge frames, with the refusals before a plan
-  abbrev Tells : ℕ → (Plan → Plan) → Checked → Type 0
-  Tells n f (Checked.Refused a) = (q : Plan) → f q ≡ refuse a
-  Tells n f (Checked.Zone s) = (shaped n z ≡ Shapes.shape_of s) × ((q : Plan) → f q ≡ q) × Fits s w c t p
+  abbrev Tells : ℕ → (Plan → Plan) → OkOr Shape Answer → Type 0
+  Tells n f (Err a) = (q : Plan) → f q ≡ refuse a
+  Tells n f (Ok s) = (shaped n z ≡ Shapes.shape_of s) × ((q : Plan) → f q ≡ q) × Fits s w c t p
 
-  entry_tells : (d : Header) → (is_malformed d ≡ false → 0 < header_huge d) → Tells (header_huge d) (guarded_by d) (checked_by (zoned_by d))
+  entry_tells : (d : Option Header) → (is_malformed d ≡ false → 0 < header_huge d) → Tells (header_huge d) (guarded_by d) (checked_by (zoned_by d))
   unfolding by_header checked_as is_malformed is_clean header_huge pick
-  entry_tells Header.Malformed k = λ q. refl
-  entry_tells (Header.Clean n) k = λ q. refl
-  entry_tells (Header.Running n) k = lengths_tell (Tells n (guarded_by (Header.Running n))) n (k refl) (λ e f b. (e, f, b)) (λ f. f)
+  entry_tells None k = λ q. refl
+  entry_tells (Some (Header.Clean n)) k = λ q. refl
+  entry_tells (Some (Header.Running n)) k = lengths_tell (Tells n (guarded_by (Some (Header.Running n)))) n (k refl) (λ e f b. (e, f, b)) (λ f. f)
 
   checked_tells : Tells (shape_of z).huge (guarded (not_open z)) (checked_in h w c t p)
   unfolding zoned_in guarded header_of checked_as pick
@@ -93,31 +94,31 @@ module _ (h w c t p : List ℕ) where
       (λ b. rw (allowed (header_checks z) (eqb-true _ _ b, tt)) (entry_tells (header_says (get_or h 0 0)) (λ m. (header_sized (get_or h 0 0) m).0)))
       (λ b q. pick_yes _ _ _ (ap not (fails_of (header_checks z) (λ k. eqb-false _ _ b k.0))))
 
-  pub checked_refused : {a : Answer} → checked_in h w c t p ≡ Checked.Refused a → (l : List Refusal) (q : Plan) → guarded (not_open z ++ l) q ≡ refuse a
+  pub checked_refused : {a : Answer} → checked_in h w c t p ≡ Err a → (l : List Refusal) (q : Plan) → guarded (not_open z ++ l) q ≡ refuse a
   unfolding guarded
   checked_refused e l q = subst (Tells (shape_of z).huge (guarded (not_open z))) e checked_tells (guarded l q)
 
-  pub checked_open : {s : Shape} → checked_in h w c t p ≡ Checked.Zone s → (shape_of z ≡ Shapes.shape_of s) × ((l : List Refusal) (q : Plan) → guarded (not_open z ++ l) q ≡ guarded l q) × Fits s w c t p
+  pub checked_open : {s : Shape} → checked_in h w c t p ≡ Ok s → (shape_of z ≡ Shapes.shape_of s) × ((l : List Refusal) (q : Plan) → guarded (not_open z ++ l) q ≡ guarded l q) × Fits s w c t p
   unfolding guarded
   checked_open e = let k = subst (Tells (shape_of z).huge (guarded (not_open z))) e checked_tells in (k.0, (λ l q. k.1 (guarded l q)), k.2)
 
   -- what is refused so has ended
-  abbrev EndsRefused : Checked → Type 0
-  EndsRefused (Checked.Refused a) = 2 ≤ number a
-  EndsRefused (Checked.Zone s) = Unit {0}
+  abbrev EndsRefused : OkOr Shape Answer → Type 0
+  EndsRefused (Err a) = 2 ≤ number a
+  EndsRefused (Ok s) = Unit {0}
 
-  by_header_lem : (x : Zoned) → EndsRefused (checked_by x)
-  unfolding checked_as
-  by_header_lem Zoned.NoHeader = omega arith
-  by_header_lem Zoned.NotAZone = omega arith
-  by_header_lem (Zoned.Running m) = pick_elim EndsRefused (passes (lengths_of m (length w) (length c) (length t) (length p))) (λ b. tt) (λ b. omega arith)
-  by_header_lem (Zoned.Clean m) = omega arith
+  entry_ends : (d : Option Header) → EndsRefused (checked_by (zoned_by d))
+  unfolding by_header checked_as
+  entry_ends None = omega arith
+  entry_ends (Some (Header.Running n)) = pick_elim EndsRefused (passes (lengths_of (sized n) (length w) (length c) (length t) (length p))) (λ b. tt) (λ b. omega arith)
+  entry_ends (Some (Header.Clean n)) = omega arith
 
-  pub refused_ends : {a : Answer} → checked_in h w c t p ≡ Checked.Refused a → 2 ≤ number a
-  refused_ends e = subst EndsRefused e (by_header_lem (zoned_in h))
+  pub refused_ends : {a : Answer} → checked_in h w c t p ≡ Err a → 2 ≤ number a
+  unfolding zoned_in checked_as
+  refused_ends e = subst EndsRefused e (pick_elim (λ x. EndsRefused (checked_by x)) (eqb (length h) 1) (λ b. entry_ends (header_says (get_or h 0 0))) (λ b. omega arith))
 
 -- a header slice that says anything has one entry
-pub one_entry : (h : List ℕ) {x : Zoned} → zoned_in h ≡ x → (x ≡ Zoned.NoHeader → ⊥) → length h ≡ 1
+pub one_entry : (h : List ℕ) {x : OkOr Zoned Answer} → zoned_in h ≡ x → (x ≡ Err Answer.BadBuffers → ⊥) → length h ≡ 1
 unfolding zoned_in
 one_entry h e k = go (eqb (length h) 1) refl
   where
@@ -128,7 +129,7 @@ one_entry h e k = go (eqb (length h) 1) refl
 -- ---- as the code makes the checks
 
 -- what the header says decides
-pub told : {A : Type 0} (f : Zoned → ℕ → ℕ → ℕ → ℕ → A) {x y : Zoned} (h : List ℕ) (w c t p : ℕ) → x ≡ zoned_in h → x ≡ y → f y w c t p ≡ f (zoned_in h) w c t p
+pub told : {A : Type 0} (f : OkOr Zoned Answer → ℕ → ℕ → ℕ → ℕ → A) {x y : OkOr Zoned Answer} (h : List ℕ) (w c t p : ℕ) → x ≡ zoned_in h → x ≡ y → f y w c t p ≡ f (zoned_in h) w c t p
 told f h w c t p e q = ap (λ v. f v w c t p) (sym q ∙ e)
 
 -- a CPU table of the right length is short

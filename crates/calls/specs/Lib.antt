@@ -1,2 +1,3 @@
 pub mod Types
 pub mod Results
+pub mod Runs

@@ -6,7 +6,5 @@ pub use Rattle.rules.specs.declared.Answer.{Answer}
 pub use Rattle.entries.specs.declared.Size.{Size}
 pub use Rattle.entries.specs.declared.Zoned.{Zoned}
 pub use Rattle.places.specs.declared.Shape.{Shape}
-pub use Rattle.calls.specs.declared.Checked.{Checked}
 pub use Rattle.calls.specs.declared.Ended.{Ended}
-pub use Rattle.calls.specs.declared.Next.{Next}
 pub use Rattle.calls.specs.declared.Way.{Way}

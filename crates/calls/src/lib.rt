@@ -1,38 +1,34 @@
 // What every call on an open zone begins with, the answers that go on with a stage, and what a run goes by.
 #![tactic(auto)]
 
-ghost use Rattle.std.specs.Prelude.{◌≡◌, max};
+ghost use Rattle.std.specs.Prelude.{◌≡◌, ◌-◌, max};
 ghost use Rattle.calls.specs.Results.{checked, next_in, way_of};
+ghost use Rattle.calls.specs.Runs.{Runs};
 
 use entries::Zoned;
 use places::Shape;
 use rules::{Answer, Giving, Record, Taking};
 
-// An open zone, or the refusal.
-#[derive(Clone, Copy)]
-pub enum Checked {
-    Zone(Shape),
-    Refused(Answer),
-}
-
-// What every call on an open zone refuses first: 8 for the header slice, 9, 10, 8.
-pub fn check(header: &[u64], words: usize, children: usize, trees: usize, cpus: usize) -> Checked
+// An open zone's shape. What every call on an open zone refuses first: 8 for the header slice, 9, 10, 8.
+pub fn check(
+    header: &[u64],
+    words: usize,
+    children: usize,
+    trees: usize,
+    cpus: usize,
+) -> Result<Shape, Answer>
     ensures { result ≡ checked header.now words children trees cpus }
 {
-    match entries::zone_says(header) {
-        Zoned::NoHeader => Checked::Refused(Answer::BadBuffers),
-        Zoned::NotAZone => Checked::Refused(Answer::NotAZone),
-        Zoned::Clean(_) => Checked::Refused(Answer::Closed),
-        Zoned::Running(size) => {
-            if entries::lengths_fit(size, words, children, trees, cpus) {
-                return Checked::Zone(Shape {
-                    size,
-                    cpus: cpus as u8,
-                });
-            }
-            Checked::Refused(Answer::BadBuffers)
-        }
+    let Zoned::Running(size) = entries::zone_says(header)? else {
+        return Err(Answer::Closed);
+    };
+    if !entries::lengths_fit(size, words, children, trees, cpus) {
+        return Err(Answer::BadBuffers);
     }
+    Ok(Shape {
+        size,
+        cpus: cpus as u8,
+    })
 }
 
 // ---- answers
@@ -70,32 +66,13 @@ pub fn at_least_one(fuel: u64) -> u64
     fuel
 }
 
-// The record that an answer goes on with.
-#[derive(Clone, Copy)]
-pub enum Next {
-    GoesOn(Record),
-    Ends,
-}
-
-pub fn next_of(answer: Answer) -> Next
+// The record that an answer goes on with; None where the operation has ended.
+pub fn next_of(answer: Answer) -> Option<Record>
     ensures { result ≡ next_in answer }
 {
     match answer {
-        Answer::UnderWay(rec) => Next::GoesOn(rec),
-        Answer::Done(_) => Next::Ends,
-        Answer::NoRoom => Next::Ends,
-        Answer::BadOrder => Next::Ends,
-        Answer::BadFrame => Next::Ends,
-        Answer::Misaligned => Next::Ends,
-        Answer::NotTaken => Next::Ends,
-        Answer::BadCpu => Next::Ends,
-        Answer::BadBuffers => Next::Ends,
-        Answer::NotAZone => Next::Ends,
-        Answer::Closed => Next::Ends,
-        Answer::BadRecord => Next::Ends,
-        Answer::Damaged => Next::Ends,
-        Answer::NotSettled => Next::Ends,
-        Answer::BadSize => Next::Ends,
+        Answer::UnderWay(rec) => Some(rec),
+        _ => None,
     }
 }
 
@@ -111,7 +88,29 @@ pub fn way_of(answer: Answer, steps: u64) -> Way
     ensures { result ≡ way_of answer steps }
 {
     match next_of(answer) {
-        Next::Ends => Way::Ends(Ended { answer, steps }),
-        Next::GoesOn(rec) => Way::Goes { rec, steps },
+        Some(rec) => Way::Goes { rec, steps },
+        None => Way::Ends(Ended { answer, steps }),
+    }
+}
+
+// The steps that are left after `made` of `fuel`, one by one, from a record on.
+pub fn follow<F: FnMut(Record) -> Answer>(step: &mut F, rec: Record, made: u64, fuel: u64) -> Ended
+    requires { F.IsAlwaysCallable step.old }
+    ensures { Runs F.step (fuel - made) made (Answer.UnderWay rec) step.old result step.new }
+{
+    let mut at = rec;
+    for steps in made..fuel {
+        let answer = step(at);
+        let Some(next) = next_of(answer) else {
+            return Ended {
+                answer,
+                steps: steps + 1,
+            };
+        };
+        at = next;
+    }
+    Ended {
+        answer: Answer::UnderWay(at),
+        steps: fuel.max(made),
     }
 }

@@ -12,6 +12,7 @@ use Rattle.laws.specs.Fields.{join, width}
 use Rattle.laws.specs.Tests.{pick, passes}
 use Rattle.laws.specs.Tables.{Outcome, outcome}
 use Rattle.laws.proofs.Tests.{pick_elim, pick_yes, pick_no, all_passed, passes_of, fails_of}
+use Rattle.std.specs.Prelude.{Option, Some, None, Result as Said, Ok, Err}
 use Rattle.rules.specs.Numbers.{most_huge}
 use Rattle.rules.specs.Entries.{header_says}
 use Rattle.rules.specs.Zone.{Zone, header_of}
@@ -24,7 +25,6 @@ use Rattle.rules.specs.declared.Header.{Header}
 use Rattle.rules.proofs.Ways.{allowed}
 use Rattle.entries.specs.Sizes.{by_header, zoned_in}
 use Rattle.entries.specs.declared.Zoned.{Zoned}
-use Rattle.calls.specs.declared.Next.{Next}
 use Rattle.calls.specs.Results.{zone, Result, result_of, done, next_in}
 use Rattle.calls.proofs.Opened.{zoned_by}
 use Rattle.calls.proofs.Runs.{NextTells, next_tells}
@@ -62,11 +62,11 @@ module _ (l : List ℕ) where
   laid_length r = pick_elim (λ (x : List ℕ). length x ≡ length l) (eqb (length l) 2) (λ b. sym (eqb-true _ _ b)) (λ b. refl)
 
 -- the record that an answer hands back: the next one, or the finished one
-module _ (a : Answer) (l : List ℕ) {m : Next} (n : m ≡ next_in a) {l' : List ℕ} where
-  pub back_next : {r : Record} → m ≡ Next.GoesOn r → l' ≡ laid r l → l' ≡ handed_back a l
+module _ (a : Answer) (l : List ℕ) {m : Option Record} (n : m ≡ next_in a) {l' : List ℕ} where
+  pub back_next : {r : Record} → m ≡ Some r → l' ≡ laid r l → l' ≡ handed_back a l
   back_next k q = q ∙ ap (λ r. laid r l) (sym (ap record_of (subst (NextTells a) (sym n ∙ k) (next_tells a))))
 
-  pub back_last : m ≡ Next.Ends → l' ≡ laid Record.Finished l → l' ≡ handed_back a l
+  pub back_last : m ≡ None → l' ≡ laid Record.Finished l → l' ≡ handed_back a l
   back_last k q = q ∙ ap (λ x. laid (by_next x Record.Finished (λ r. r)) l) (sym (subst (NextTells a) (sym n ∙ k) (next_tells a)))
 
 -- ---- one call, and a run
@@ -115,17 +115,16 @@ same_called {A} o a b z y l m p q = (ap (λ (x : Called A). x.said) (p ∙ sym q
 
 -- ---- what comes before 8
 
-abbrev pub before8 : Answer → Zoned → Answer
-before8 e Zoned.NoHeader = Answer.BadBuffers
-before8 e Zoned.NotAZone = Answer.NotAZone
-before8 e (Zoned.Running m) = Answer.BadBuffers
-before8 e (Zoned.Clean m) = e
+abbrev pub before8 : Answer → Said Zoned Answer → Answer
+before8 e (Err a) = a
+before8 e (Ok (Zoned.Running m)) = Answer.BadBuffers
+before8 e (Ok (Zoned.Clean m)) = e
 
-entry_before : (e : Answer) (d : Header) → before8 e (zoned_by d) ≡ (pick (is_malformed d) (refuse Answer.NotAZone) (pick (is_clean d) (refuse e) (refuse Answer.BadBuffers))).answer
+entry_before : (e : Answer) (d : Option Header) → before8 e (zoned_by d) ≡ (pick (is_malformed d) (refuse Answer.NotAZone) (pick (is_clean d) (refuse e) (refuse Answer.BadBuffers))).answer
 unfolding by_header is_malformed is_clean pick
-entry_before e Header.Malformed = refl
-entry_before e (Header.Running n) = refl
-entry_before e (Header.Clean n) = refl
+entry_before e None = refl
+entry_before e (Some (Header.Running n)) = refl
+entry_before e (Some (Header.Clean n)) = refl
 
 header_before : (e : Answer) (h : List ℕ) → before8 e (zoned_in h) ≡ no_record e h
 unfolding no_record guarded header_of zoned_in
@@ -135,7 +134,7 @@ header_before e h =
     (λ b. entry_before e (header_says (get_or h 0 0)) ∙ sym (ap (λ (q : Plan). q.answer) (pick_no _ _ _ (allowed (header_checks z) (eqb-true _ _ b, tt)))))
     (λ b. sym (ap (λ (q : Plan). q.answer) (pick_yes _ _ _ (ap not (fails_of (header_checks z) (λ k. eqb-false _ _ b k.0))))))
 
-pub no_record_lem : (e : Answer) (h : List ℕ) {x y : Zoned} → x ≡ zoned_in h → x ≡ y → before8 e y ≡ no_record e h
+pub no_record_lem : (e : Answer) (h : List ℕ) {x y : Said Zoned Answer} → x ≡ zoned_in h → x ≡ y → before8 e y ≡ no_record e h
 no_record_lem e h p q = ap (before8 e) (sym q ∙ p) ∙ header_before e h
 
 -- ---- a number of huge frames

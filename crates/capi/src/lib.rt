@@ -13,7 +13,7 @@ ghost use Rattle.rules.specs.Open.{close_zone};
 ghost use Rattle.calls.specs.Results.{zone};
 ghost use Rattle.capi.specs.Calls.{record_words, answered_as, ran_as, laid, handed_back, no_record, no_create_record, called, followed, length_for, trees_for, get_call, put_call, step_call, run_call, get_run_call, put_run_call, create_call, create_step_call, create_run_call, open_call, open_step_call, open_run_call, close_call};
 
-use calls::{Next, Way};
+use calls::Way;
 use entries::Zoned;
 use rules::{Answer, Frame, Record};
 
@@ -45,10 +45,7 @@ pub struct Ran {
 fn no_size(n: u64) -> bool
     ensures { result ≡ not (passes (size_checks n)) }
 {
-    if n == 0 {
-        return true;
-    }
-    MOST_HUGE < n
+    n == 0 || MOST_HUGE < n
 }
 
 pub fn lovarntek_words(n: u64) -> u64
@@ -80,12 +77,15 @@ pub fn lovarntek_trees(n: u64) -> u64
 
 // ---- answers and records
 
-fn told(answer: Answer) -> Answered
-    ensures { result ≡ answered_as answer }
-{
-    Answered {
-        number: records::number_of(answer),
-        frame: records::frame_of(answer),
+// An answer by its number and frame.
+impl From<Answer> for Answered {
+    ghost from_gives = { λ answer told. told ≡ answered_as answer };
+
+    fn from(answer: Answer) -> Answered {
+        Answered {
+            number: records::number_of(answer),
+            frame: records::frame_of(answer),
+        }
     }
 }
 
@@ -115,8 +115,8 @@ fn hand_back(rec: &mut [u64], answer: Answer)
     ensures { rec.new ≡ handed_back answer rec.old }
 {
     match calls::next_of(answer) {
-        Next::GoesOn(next) => lay(rec, next),
-        Next::Ends => lay_finished(rec),
+        Some(next) => lay(rec, next),
+        None => lay_finished(rec),
     }
 }
 
@@ -125,8 +125,8 @@ fn told_run(rec: &mut [u64], answer: Answer, steps: u64) -> Ran
     ensures { outcome result rec.new ≡ outcome (ran_as answer steps) (handed_back answer rec.old) }
 {
     match calls::next_of(answer) {
-        Next::GoesOn(next) => lay(rec, next),
-        Next::Ends => lay_finished(rec),
+        Some(next) => lay(rec, next),
+        None => lay_finished(rec),
     }
     Ran {
         number: records::number_of(answer),
@@ -160,10 +160,9 @@ fn no_record(header: &[u64], closed: Answer) -> Answer
     ensures { result ≡ no_record closed header.now }
 {
     match entries::zone_says(header) {
-        Zoned::NoHeader => Answer::BadBuffers,
-        Zoned::NotAZone => Answer::NotAZone,
-        Zoned::Clean(_) => closed,
-        Zoned::Running(_) => Answer::BadBuffers,
+        Err(answer) => answer,
+        Ok(Zoned::Clean(_)) => closed,
+        Ok(Zoned::Running(_)) => Answer::BadBuffers,
     }
 }
 
@@ -192,11 +191,11 @@ pub fn lovarntek_get(
     ensures { called result (zone header.now words.now children.now trees.now cpus.now) rec.new ≡ get_call (zone header.now words.now children.now trees.now cpus.now) rec.old cpu order }
 {
     if rec.len() != RECORD {
-        return told(no_record(header, Answer::Closed));
+        return Answered::from(no_record(header, Answer::Closed));
     }
     let answer = begins::begin_get(header, words, children, trees, cpus, cpu, order);
     hand_back(rec, answer);
-    told(answer)
+    Answered::from(answer)
 }
 
 pub fn lovarntek_put(
@@ -213,7 +212,7 @@ pub fn lovarntek_put(
     ensures { called result (zone header.now words.now children.now trees.now cpus.now) rec.new ≡ put_call (zone header.now words.now children.now trees.now cpus.now) rec.old cpu first order }
 {
     if rec.len() != RECORD {
-        return told(no_record(header, Answer::Closed));
+        return Answered::from(no_record(header, Answer::Closed));
     }
     let answer = begins::begin_put(
         header,
@@ -226,7 +225,7 @@ pub fn lovarntek_put(
         order,
     );
     hand_back(rec, answer);
-    told(answer)
+    Answered::from(answer)
 }
 
 pub fn lovarntek_step(
@@ -240,12 +239,12 @@ pub fn lovarntek_step(
     ensures { called result (zone header.now words.new children.new trees.new cpus.new) rec.new ≡ step_call (zone header.now words.old children.old trees.old cpus.old) rec.old }
 {
     if rec.len() != RECORD {
-        return told(no_record(header, Answer::Closed));
+        return Answered::from(no_record(header, Answer::Closed));
     }
     let given = records::decode(rec[0], rec[1]);
     let answer = upper::step(header, words, children, trees, cpus, given);
     hand_back(rec, answer);
-    told(answer)
+    Answered::from(answer)
 }
 
 pub fn lovarntek_run(
@@ -347,11 +346,11 @@ pub fn lovarntek_create(
     ensures { called result (zone header.new words.now children.now trees.now cpus.now) rec.new ≡ create_call (zone header.old words.now children.now trees.now cpus.now) rec.old n }
 {
     if rec.len() != RECORD {
-        return told(no_create_record(n));
+        return Answered::from(no_create_record(n));
     }
     let answer = creating::create(header, words, children, trees, cpus, n);
     hand_back(rec, answer);
-    told(answer)
+    Answered::from(answer)
 }
 
 pub fn lovarntek_create_step(
@@ -366,12 +365,12 @@ pub fn lovarntek_create_step(
     ensures { called result (zone header.new words.new children.new trees.new cpus.new) rec.new ≡ create_step_call (zone header.old words.old children.old trees.old cpus.old) rec.old n }
 {
     if rec.len() != RECORD {
-        return told(no_create_record(n));
+        return Answered::from(no_create_record(n));
     }
     let given = records::decode(rec[0], rec[1]);
     let answer = creating::create_step(header, words, children, trees, cpus, n, given);
     hand_back(rec, answer);
-    told(answer)
+    Answered::from(answer)
 }
 
 pub fn lovarntek_create_run(
@@ -408,11 +407,11 @@ pub fn lovarntek_open(
     ensures { called result (zone header.new words.now children.now trees.now cpus.now) rec.new ≡ open_call (zone header.old words.now children.now trees.now cpus.now) rec.old }
 {
     if rec.len() != RECORD {
-        return told(no_record(header, Answer::BadBuffers));
+        return Answered::from(no_record(header, Answer::BadBuffers));
     }
     let answer = opening::open(header, words, children, trees, cpus);
     hand_back(rec, answer);
-    told(answer)
+    Answered::from(answer)
 }
 
 pub fn lovarntek_open_step(
@@ -426,12 +425,12 @@ pub fn lovarntek_open_step(
     ensures { called result (zone header.now words.now children.new trees.new cpus.new) rec.new ≡ open_step_call (zone header.now words.now children.old trees.old cpus.old) rec.old }
 {
     if rec.len() != RECORD {
-        return told(no_record(header, Answer::Closed));
+        return Answered::from(no_record(header, Answer::Closed));
     }
     let given = records::decode(rec[0], rec[1]);
     let answer = opening::open_step(header, words, children, trees, cpus, given);
     hand_back(rec, answer);
-    told(answer)
+    Answered::from(answer)
 }
 
 pub fn lovarntek_open_run(
@@ -465,7 +464,7 @@ pub fn lovarntek_close(
 ) -> Answered
     ensures { called result (zone header.new words.now children.now trees.now cpus.now) [] ≡ close_call (zone header.old words.now children.now trees.now cpus.now) }
 {
-    told(closing::close(header, words, children, trees, cpus))
+    Answered::from(closing::close(header, words, children, trees, cpus))
 }
 
 pub fn lovarntek_settled(
@@ -477,5 +476,5 @@ pub fn lovarntek_settled(
 ) -> Answered
     ensures { result ≡ answered_as (close_zone (zone header.now words.now children.now trees.now cpus.now)).answer }
 {
-    told(closing::settled(header, words, children, trees, cpus))
+    Answered::from(closing::settled(header, words, children, trees, cpus))
 }

@@ -1,20 +1,22 @@
 -- The stages on children, from what the lower level says of a tree's part.
 use mathlib.Core.Path.{◌≡◌, refl, sym, ap, ◌∙◌}
 use mathlib.Core.List.{List}
-use Prim.Native.Nat.{ℕ, ◌+◌, ◌*◌, ◌<◌}
+use Prim.Native.Nat.{ℕ, ◌+◌, ◌-◌, ◌*◌, ◌<◌}
+use Rattle.std.specs.Prelude.{Bool, Option, Some, None, Result, Ok, Err}
 use native.Mathlib.Numerals.{add-one}
 use native.Mathlib.Omega.{arith}
-use lib.Dec.{eqb}
+use lib.Dec.{eqb, leb}
 use borrow.Author.Tests.{eq-eqb, ne_eqb}
 use Rattle.laws.specs.Tests.{pick}
 use Rattle.laws.specs.Tables.{Outcome, outcome}
-use Rattle.laws.proofs.Tests.{pick_yes, pick_no}
-use Rattle.rules.specs.Numbers.{Shape as Rules, per_tree, children_of}
+use Rattle.laws.proofs.Tests.{pick_elim, pick_yes, pick_no}
+use Rattle.rules.specs.Numbers.{child_frames, Shape as Rules, per_tree, children_of}
 use Rattle.rules.specs.Blocks.{tree_of_block, child_of_block}
 use Rattle.rules.specs.Places.{place_tree}
 use Rattle.rules.specs.Take.{get, next_child}
-use Rattle.rules.specs.Lower.{Lowered}
-use Rattle.rules.specs.Plan.{Mark, plain, Made, by_took, lowered, on_took, on_gave}
+use Rattle.rules.specs.Lower.{Lowered, told, changed, child_says, count_word, flagged_word, by_child, claim, take_huge}
+use Rattle.rules.specs.Plan.{Mark, by_took, on_took, on_gave}
+use Rattle.rules.specs.declared.ChildEntry.{ChildEntry}
 use Rattle.lower.specs.Tables.{step_in}
 use Rattle.entries.specs.Sizes as Sizes
 use Rattle.places.specs.Shapes.{shape_of, block_at_in, ranged}
@@ -22,21 +24,30 @@ use Rattle.places.specs.declared.BlockAt.{BlockAt}
 use Rattle.places.proofs.Ranges.{children_same}
 use Rattle.lending.specs.Tables.{lent, made_in}
 use Rattle.lending.specs.Answers.{given_answer}
-use Rattle.lending.proofs.Lending.{answered, lent_made, gave_same, block_there}
-use Rattle.child_stages.specs.Types.{Tree, Order, Block, Took, Gave, Place, Taking, Answer, Claimed, Given, Shape}
+use Rattle.lending.proofs.Lending.{answered, lent_made, SameGave, block_there}
+use Rattle.child_stages.specs.Types.{Tree, Order, Block, Took, Fault, Place, Taking, Answer, Shape}
 use Rattle.child_stages.specs.Tables.{lent_children}
 use Rattle.child_stages.specs.Answers.{claimed_answer}
 
 -- ---- the change is the lower level's, the answer is of what it said
 
-took_same : (o : Lowered Took) (x y : Answer) (k : Mark) → (o.change ≡ (on_took o x k y).change) × (claimed_answer x y (Claimed.Entry o.said) ≡ (on_took o x k y).answer)
-unfolding by_took
-took_same o x y k = go o.said
-  where
-    go : (s : Took) → let m : Made ℕ = by_took s (lowered o x k) (lowered o y plain) (lowered o Answer.Damaged plain) in (o.change ≡ m.change) × (claimed_answer x y (Claimed.Entry s) ≡ m.answer)
-    go Took.Taken = (refl, refl)
-    go Took.Passed = (refl, refl)
-    go Took.Damaged = (refl, refl)
+module _ (x y : Answer) (k : Mark) where
+  abbrev pub SameTook : Lowered (Result Took Fault) → Type 0
+  SameTook o = (o.change ≡ (on_took o x k y).change) × (claimed_answer x y o.said ≡ (on_took o x k y).answer)
+
+  took_same : (e : Option ChildEntry) (b : ℕ → Bool) (v : ℕ → ℕ) → SameTook (by_child e (told (Err Fault.Damaged)) (λ n. pick (b n) (changed (Ok Took.Taken) (v n)) (told (Ok Took.Passed))) (told (Ok Took.Passed)))
+  unfolding by_child by_took
+  took_same None b v = (refl, refl)
+  took_same (Some (ChildEntry.Counts n)) b v = pick_elim SameTook (b n) (λ t. (refl, refl)) (λ t. (refl, refl))
+  took_same (Some ChildEntry.Flagged) b v = (refl, refl)
+
+  pub claim_same : (s n : ℕ) → SameTook (claim s n)
+  unfolding claim
+  claim_same s n = took_same (child_says n) (leb s) (λ k. count_word (k - s))
+
+  pub nine_same : (n : ℕ) → SameTook (take_huge n)
+  unfolding take_huge
+  nine_same n = took_same (child_says n) (λ k. eqb k child_frames) (λ k. flagged_word)
 
 -- ---- a tree's children
 
@@ -62,21 +73,21 @@ module _ (g : Rules) (cpu : ℕ) (o : Order) (p : Place) (s c : ℕ) {n : ℕ} (
 -- ---- steps on a child
 
 module _ (a k c : ℕ) (l : List ℕ) where
-  pub claimed_made : (F : ℕ → Lowered Took) (x y : Answer) (q : Mark) {s : Claimed} {m : List ℕ} {r : Answer} → outcome s m ≡ lent Claimed.NoChild a k (λ p. step_in Claimed.Entry Claimed.NoChild F p c) l → r ≡ claimed_answer x y s → outcome r m ≡ made_in a k c (λ v. on_took (F v) x q y) l
+  pub claimed_made : (F : ℕ → Lowered (Result Took Fault)) (x y : Answer) (q : Mark) → ((n : ℕ) → SameTook x y q (F n)) → {s : Result Took Fault} {m : List ℕ} {r : Answer} → outcome s m ≡ lent (Err Fault.NoChild) a k (λ p. step_in (λ s. s) (Err Fault.NoChild) F p c) l → r ≡ claimed_answer x y s → outcome r m ≡ made_in a k c (λ v. on_took (F v) x q y) l
   unfolding step_in
-  claimed_made F x y q d e =
+  claimed_made F x y q same d e =
       answered (claimed_answer x y) d e
-      ∙ lent_made Claimed.NoChild (claimed_answer x y) refl a k (λ p. step_in Claimed.Entry Claimed.NoChild F p c) l Claimed.Entry F _ (λ v. took_same (F v) x y q) c (λ e. rw e refl)
+      ∙ lent_made (Err Fault.NoChild) (claimed_answer x y) refl a k (λ p. step_in (λ s. s) (Err Fault.NoChild) F p c) l (λ s. s) F _ same c (λ e. rw e refl)
 
-  pub given_made : (F : ℕ → Lowered Gave) (x : Answer) (q : Mark) {s : Given} {m : List ℕ} {r : Answer} → outcome s m ≡ lent Given.NoChild a k (λ p. step_in Given.Entry Given.NoChild F p c) l → r ≡ given_answer x s → outcome r m ≡ made_in a k c (λ v. on_gave (F v) x q) l
+  pub given_made : (F : ℕ → Lowered (Result Unit Fault)) (x : Answer) (q : Mark) → ((n : ℕ) → SameGave x q (F n)) → {s : Result Unit Fault} {m : List ℕ} {r : Answer} → outcome s m ≡ lent (Err Fault.NoChild) a k (λ p. step_in (λ s. s) (Err Fault.NoChild) F p c) l → r ≡ given_answer x s → outcome r m ≡ made_in a k c (λ v. on_gave (F v) x q) l
   unfolding step_in
-  given_made F x q d e =
+  given_made F x q same d e =
       answered (given_answer x) d e
-      ∙ lent_made Given.NoChild (given_answer x) refl a k (λ p. step_in Given.Entry Given.NoChild F p c) l Given.Entry F _ (λ v. gave_same (F v) x q) c (λ e. rw e refl)
+      ∙ lent_made (Err Fault.NoChild) (given_answer x) refl a k (λ p. step_in (λ s. s) (Err Fault.NoChild) F p c) l (λ s. s) F _ same c (λ e. rw e refl)
 
 -- ---- a block's child
 
-module _ (g : Rules) (l : List ℕ) (b : Block) (f : List ℕ → Outcome Answer) {r : BlockAt} {t : Tree} {c : ℕ} (e : r ≡ block_at_in g b) (q : r ≡ BlockAt.At t c) {s : Given} {m : List ℕ} {a : Answer} (x : Answer) (k : Mark) (z : a ≡ given_answer x s) where
+module _ (g : Rules) (l : List ℕ) (b : Block) (f : List ℕ → Outcome Answer) {r : Option BlockAt} {at : BlockAt} (e : r ≡ block_at_in g b) (q : r ≡ Some at) {s : Result Unit Fault} {m : List ℕ} {a : Answer} (x : Answer) (k : Mark) (z : a ≡ given_answer x s) where
   -- a step on the block's child
-  pub given_there : (F : ℕ → Lowered Gave) → outcome s m ≡ lent_children g t Given.NoChild (λ p. step_in Given.Entry Given.NoChild F p c) l → made_in ((tree_of_block g b).0 * per_tree g) (children_of g (tree_of_block g b).0) (child_of_block g b) (λ v. on_gave (F v) x k) l ≡ f l → outcome a m ≡ ranged g b f l
-  given_there F d = block_there g b f l e (λ t c. made_in (t.0 * per_tree g) (children_of g t.0) c (λ v. on_gave (F v) x k) l) q (given_made _ _ _ l F x k d z)
+  pub given_there : (F : ℕ → Lowered (Result Unit Fault)) → ((n : ℕ) → SameGave x k (F n)) → outcome s m ≡ lent_children g at.tree (Err Fault.NoChild) (λ p. step_in (λ s. s) (Err Fault.NoChild) F p at.child) l → made_in ((tree_of_block g b).0 * per_tree g) (children_of g (tree_of_block g b).0) (child_of_block g b) (λ v. on_gave (F v) x k) l ≡ f l → outcome a m ≡ ranged g b f l
+  given_there F same d = block_there g b f l e (λ t c. made_in (t.0 * per_tree g) (children_of g t.0) c (λ v. on_gave (F v) x k) l) q (given_made _ _ _ l F x k same d z)

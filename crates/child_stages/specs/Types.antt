@@ -3,10 +3,8 @@ pub use Rattle.rules.specs.declared.Tree.{Tree}
 pub use Rattle.rules.specs.declared.Order.{Order}
 pub use Rattle.rules.specs.declared.Block.{Block}
 pub use Rattle.rules.specs.declared.Took.{Took}
-pub use Rattle.rules.specs.declared.Gave.{Gave}
+pub use Rattle.rules.specs.declared.Fault.{Fault}
 pub use Rattle.rules.specs.declared.Place.{Place}
 pub use Rattle.rules.specs.declared.Taking.{Taking}
 pub use Rattle.rules.specs.declared.Answer.{Answer}
-pub use Rattle.lower.specs.declared.Claimed.{Claimed}
-pub use Rattle.lower.specs.declared.Given.{Given}
 pub use Rattle.places.specs.declared.Shape.{Shape}

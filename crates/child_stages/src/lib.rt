@@ -2,79 +2,106 @@
 // A number that the table has not is answered 11.
 #![tactic(auto)]
 
-ghost use Rattle.std.specs.Prelude.{◌≡◌, ◌<◌};
+ghost use Rattle.std.specs.Prelude.{◌≡◌, ◌<◌, Err};
+ghost use Rattle.std.specs.Fn.{FnOnceReturnsAtMut};
 ghost use Rattle.laws.specs.Tables.{outcome};
 ghost use Rattle.rules.specs.Take.{next_child, take};
 ghost use Rattle.rules.specs.Give.{give};
 ghost use Rattle.lower.specs.Steps.{claim_in, take_huge_in, give_in, clear_huge_in};
 ghost use Rattle.places.specs.Shapes.{shape_of, ranged};
-ghost use Rattle.child_stages.specs.Tables.{lent_children, in_children};
+ghost use Rattle.child_stages.specs.Tables.{lent_children, LentTo, in_children};
 ghost use Rattle.child_stages.specs.Answers.{claimed_answer};
 
-use lower::{Claimed, Given};
-use places::{BlockAt, Shape};
-use rules::{Answer, Block, Frame, Giving, Huge, Order, Place, Run, Taking, Took, Tree};
+use places::Shape;
+use rules::{Answer, Block, Fault, Frame, Giving, Huge, Order, Place, Run, Taking, Took, Tree};
 
 const TREE_CHILDREN: usize = 32;
 
 // ---- a tree's part, lent
 
-pub fn claim(children: &mut [u16], shape: Shape, tree: Tree, child: u8, frames: u16) -> Claimed
-    ensures { outcome result children.new ≡ lent_children (shape_of shape) tree Claimed.NoChild (λ l. claim_in frames l child) children.old }
+// The tree's children, lent to f. Refuses a table that has them not.
+fn lent<R, F: FnOnce(&mut [u16]) -> Result<R, Fault>>(
+    children: &mut [u16],
+    shape: Shape,
+    tree: Tree,
+    f: F,
+) -> Result<R, Fault>
+    requires { F.IsAlwaysCallable f }
+    ensures { LentTo (shape_of shape) tree (Err Fault.NoChild) (FnOnceReturnsAtMut F.FnOnce f) children.old (outcome result children.new) }
 {
     let first = tree.0 as usize * TREE_CHILDREN;
     let end = first + entries::children_of(shape.size, tree) as usize;
     if children.len() < end {
-        return Claimed::NoChild;
+        return Err(Fault::NoChild);
     }
-    lower::claim(&mut children[first..end], child as usize, frames)
+    f(&mut children[first..end])
 }
 
-pub fn take_huge(children: &mut [u16], shape: Shape, tree: Tree, child: u8) -> Claimed
-    ensures { outcome result children.new ≡ lent_children (shape_of shape) tree Claimed.NoChild (λ l. take_huge_in l child) children.old }
+pub fn claim(
+    children: &mut [u16],
+    shape: Shape,
+    tree: Tree,
+    child: u8,
+    frames: u16,
+) -> Result<Took, Fault>
+    ensures { outcome result children.new ≡ lent_children (shape_of shape) tree (Err Fault.NoChild) (λ l. claim_in frames l child) children.old }
 {
-    let first = tree.0 as usize * TREE_CHILDREN;
-    let end = first + entries::children_of(shape.size, tree) as usize;
-    if children.len() < end {
-        return Claimed::NoChild;
-    }
-    lower::take_huge(&mut children[first..end], child as usize)
+    lent(
+        children,
+        shape,
+        tree,
+        |part| lower::claim(part, child as usize, frames),
+    )
 }
 
-pub fn give_count(children: &mut [u16], shape: Shape, tree: Tree, child: u8, frames: u16) -> Given
-    ensures { outcome result children.new ≡ lent_children (shape_of shape) tree Given.NoChild (λ l. give_in frames l child) children.old }
+pub fn take_huge(children: &mut [u16], shape: Shape, tree: Tree, child: u8) -> Result<Took, Fault>
+    ensures { outcome result children.new ≡ lent_children (shape_of shape) tree (Err Fault.NoChild) (λ l. take_huge_in l child) children.old }
 {
-    let first = tree.0 as usize * TREE_CHILDREN;
-    let end = first + entries::children_of(shape.size, tree) as usize;
-    if children.len() < end {
-        return Given::NoChild;
-    }
-    lower::give_count(&mut children[first..end], child as usize, frames)
+    lent(
+        children,
+        shape,
+        tree,
+        |part| lower::take_huge(part, child as usize),
+    )
 }
 
-pub fn clear_huge(children: &mut [u16], shape: Shape, tree: Tree, child: u8) -> Given
-    ensures { outcome result children.new ≡ lent_children (shape_of shape) tree Given.NoChild (λ l. clear_huge_in l child) children.old }
+pub fn give_count(
+    children: &mut [u16],
+    shape: Shape,
+    tree: Tree,
+    child: u8,
+    frames: u16,
+) -> Result<(), Fault>
+    ensures { outcome result children.new ≡ lent_children (shape_of shape) tree (Err Fault.NoChild) (λ l. give_in frames l child) children.old }
 {
-    let first = tree.0 as usize * TREE_CHILDREN;
-    let end = first + entries::children_of(shape.size, tree) as usize;
-    if children.len() < end {
-        return Given::NoChild;
-    }
-    lower::clear_huge(&mut children[first..end], child as usize)
+    lent(
+        children,
+        shape,
+        tree,
+        |part| lower::give_count(part, child as usize, frames),
+    )
+}
+
+pub fn clear_huge(children: &mut [u16], shape: Shape, tree: Tree, child: u8) -> Result<(), Fault>
+    ensures { outcome result children.new ≡ lent_children (shape_of shape) tree (Err Fault.NoChild) (λ l. clear_huge_in l child) children.old }
+{
+    lent(
+        children,
+        shape,
+        tree,
+        |part| lower::clear_huge(part, child as usize),
+    )
 }
 
 // ---- answers
 
-fn claimed_answer(taken: Answer, passed: Answer, said: Claimed) -> Answer
+fn claimed_answer(taken: Answer, passed: Answer, said: Result<Took, Fault>) -> Answer
     ensures { result ≡ claimed_answer taken passed said }
 {
     match said {
-        Claimed::Entry(took) => match took {
-            Took::Taken => taken,
-            Took::Passed => passed,
-            Took::Damaged => Answer::Damaged,
-        },
-        Claimed::NoChild => Answer::BadRecord,
+        Ok(Took::Taken) => taken,
+        Ok(Took::Passed) => passed,
+        Err(fault) => Answer::from(fault),
     }
 }
 
@@ -197,9 +224,9 @@ pub fn clear_whole(children: &mut [u16], shape: Shape, cpu: u8, huge: Huge) -> A
     ensures { outcome result children.new ≡ ranged (shape_of shape) (Block.Whole huge) (in_children (shape_of shape) (give (shape_of shape) cpu (Giving.Clear (Block.Whole huge)))) children.old }
 {
     match places::block_at(shape, Block::Whole(huge)) {
-        BlockAt::Nowhere => Answer::BadRecord,
-        BlockAt::At { tree, child } => {
-            let said = clear_huge(children, shape, tree, child);
+        None => Answer::BadRecord,
+        Some(at) => {
+            let said = clear_huge(children, shape, at.tree, at.child);
             lending::given_answer(calls::put(cpu, Giving::ToEntry(Block::Whole(huge))), said)
         }
     }
@@ -210,9 +237,9 @@ pub fn raise(children: &mut [u16], shape: Shape, cpu: u8, run: Run, first: Frame
     ensures { outcome result children.new ≡ ranged (shape_of shape) (Block.Run run first) (in_children (shape_of shape) (give (shape_of shape) cpu (Giving.Raise run first))) children.old }
 {
     match places::block_at(shape, Block::Run { run, first }) {
-        BlockAt::Nowhere => Answer::BadRecord,
-        BlockAt::At { tree, child } => {
-            let said = give_count(children, shape, tree, child, rules::frames_of(run));
+        None => Answer::BadRecord,
+        Some(at) => {
+            let said = give_count(children, shape, at.tree, at.child, rules::frames_of(run));
             lending::given_answer(
                 calls::put(cpu, Giving::ToEntry(Block::Run { run, first })),
                 said,

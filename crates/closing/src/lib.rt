@@ -7,8 +7,6 @@ ghost use Rattle.places.specs.Shapes.{shape_of};
 ghost use Rattle.calls.specs.Results.{zone, result_of, done, Fits};
 ghost use Rattle.closing.specs.Verdicts.{sound_in, verdict_in};
 
-use calls::Checked;
-use entries::Stored;
 use places::Shape;
 use rules::{Answer, Frame};
 
@@ -40,28 +38,24 @@ fn all_settled(words: &[u64], children: &[u16], trees: &[u16], cpus: &[u64], sha
     looks::trees_settled(children, trees, cpus, shape)
 }
 
-// A settled zone, or the refusal.
-#[derive(Clone, Copy)]
-enum Verdict {
-    Settled(Shape),
-    Refused(Answer),
-}
-
-fn judge(header: &[u64], words: &[u64], children: &[u16], trees: &[u16], cpus: &[u64]) -> Verdict
+// What close finds before its store: a settled zone's shape, or the refusal.
+fn judge(
+    header: &[u64],
+    words: &[u64],
+    children: &[u16],
+    trees: &[u16],
+    cpus: &[u64],
+) -> Result<Shape, Answer>
     ensures { result ≡ verdict_in header.now words.now children.now trees.now cpus.now }
 {
-    match calls::check(header, words.len(), children.len(), trees.len(), cpus.len()) {
-        Checked::Refused(answer) => Verdict::Refused(answer),
-        Checked::Zone(shape) => {
-            if !sound(words, children, trees, cpus, shape) {
-                return Verdict::Refused(Answer::Damaged);
-            }
-            if !all_settled(words, children, trees, cpus, shape) {
-                return Verdict::Refused(Answer::NotSettled);
-            }
-            Verdict::Settled(shape)
-        }
+    let shape = calls::check(header, words.len(), children.len(), trees.len(), cpus.len())?;
+    if !sound(words, children, trees, cpus, shape) {
+        return Err(Answer::Damaged);
     }
+    if !all_settled(words, children, trees, cpus, shape) {
+        return Err(Answer::NotSettled);
+    }
+    Ok(shape)
 }
 
 // "This zone is settled": what close answers, without its store. 8 for the header slice, 9, 10, 8, 12, 13; Done with frame 0.
@@ -75,8 +69,8 @@ pub fn settled(
     ensures { result ≡ (close_zone (zone header.now words.now children.now trees.now cpus.now)).answer }
 {
     match judge(header, words, children, trees, cpus) {
-        Verdict::Refused(answer) => answer,
-        Verdict::Settled(_) => Answer::Done(Frame(0)),
+        Err(answer) => answer,
+        Ok(_) => Answer::Done(Frame(0)),
     }
 }
 
@@ -91,10 +85,10 @@ pub fn close(
     ensures { result_of result (zone header.new words.now children.now trees.now cpus.now) ≡ done (zone header.old words.now children.now trees.now cpus.now) (close_zone (zone header.old words.now children.now trees.now cpus.now)) }
 {
     match judge(header, words, children, trees, cpus) {
-        Verdict::Refused(answer) => answer,
-        Verdict::Settled(shape) => match entries::store_clean(header, shape.size) {
-            Stored::Stored => Answer::Done(Frame(0)),
-            Stored::NoEntry => Answer::BadBuffers,
+        Err(answer) => answer,
+        Ok(shape) => match entries::store_clean(header, shape.size) {
+            Ok(()) => Answer::Done(Frame(0)),
+            Err(_) => Answer::BadBuffers,
         },
     }
 }

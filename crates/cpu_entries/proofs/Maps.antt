@@ -1,4 +1,5 @@
 -- What a step says of a CPU's entry, said in other words: the table afterwards is the same.
+use Rattle.std.specs.Prelude.{Option, Some, None}
 use mathlib.Core.Path.{◌≡◌, refl, ap, ◌∙◌}
 use mathlib.Core.List.{List}
 use Prim.Native.Nat.{ℕ}
@@ -30,7 +31,7 @@ module _ {A B : Type 0} (h : A → B) (g : Shape) (damaged : A) (j : ℕ) (l : L
   unfolding on_cpu by_cpu
   cpu_mapped a f a' f' p q = go (cpu_says g (get_or l j 0))
     where
-      go : (e : CpuEntry) → wrapped h (by_cpu e (outcome damaged l) (cpu_turned g damaged j a l) (λ t s k. cpu_turned g damaged j (f t s k) l)) ≡ by_cpu e (outcome (h damaged) l) (cpu_turned g (h damaged) j a' l) (λ t s k. cpu_turned g (h damaged) j (f' t s k) l)
-      go CpuEntry.Damaged = refl
-      go CpuEntry.Absent = turned_mapped a ∙ ap (λ m. cpu_turned g (h damaged) j m l) p
-      go (CpuEntry.Holds t s k) = turned_mapped (f t s k) ∙ ap (λ m. cpu_turned g (h damaged) j m l) (q t s k)
+      go : (e : Option CpuEntry) → wrapped h (by_cpu e (outcome damaged l) (cpu_turned g damaged j a l) (λ t s k. cpu_turned g damaged j (f t s k) l)) ≡ by_cpu e (outcome (h damaged) l) (cpu_turned g (h damaged) j a' l) (λ t s k. cpu_turned g (h damaged) j (f' t s k) l)
+      go None = refl
+      go (Some CpuEntry.Absent) = turned_mapped a ∙ ap (λ m. cpu_turned g (h damaged) j m l) p
+      go (Some (CpuEntry.Holds t s k)) = turned_mapped (f t s k) ∙ ap (λ m. cpu_turned g (h damaged) j m l) (q t s k)

@@ -9,10 +9,10 @@ ghost use Rattle.rules.specs.Numbers.{format1};
 ghost use Rattle.rules.specs.Entries.{cpu_layout, cpu_says};
 ghost use Rattle.entries.specs.Sizes.{shape_of};
 ghost use Rattle.entries.specs.Steps.{stored_in};
-ghost use Rattle.cpu_entries.specs.Steps.{cpu_fields, claim_own_in, add_own_in, claim_or_release_in, release_in, write_in, steal_in, set_start_in, look_cpu_in};
+ghost use Rattle.cpu_entries.specs.Steps.{cpu_fields, claim_own_in, add_own_in, claim_or_release_in, release_in, write_in, steal_in, set_start_in, look_cpu_in, held_in};
 
-use entries::{Size, Stored};
-use rules::{CpuEntry, Tree};
+use entries::Size;
+use rules::{CpuEntry, Fault, Tree};
 
 // ---- a CPU's entry: present (1), tree (11), start child (5), count (15), zero (32); an absent entry is the zero word
 
@@ -44,30 +44,67 @@ fn join_cpu(tree: Tree, start: u8, count: u16) -> u64
     1u64 << 63 | (tree.0 as u64) << 52 | (start as u64) << 47 | (count as u64) << 32
 }
 
-fn cpu_says(size: Size, word: u64) -> CpuEntry
+fn cpu_says(size: Size, word: u64) -> Option<CpuEntry>
     ensures { result ≡ cpu_says (shape_of size) word }
 {
     if word == 0 {
-        return CpuEntry::Absent;
+        return Some(CpuEntry::Absent);
     }
     let f = split_cpu(word);
     let tree = Tree(f.tree);
     if f.present == 0 {
-        return CpuEntry::Damaged;
+        return None;
     }
     if f.zero != 0 {
-        return CpuEntry::Damaged;
+        return None;
     }
     if entries::children_of(size, tree) <= f.start as u16 {
-        return CpuEntry::Damaged;
+        return None;
     }
     if entries::capacity_of(size, tree) < f.count {
-        return CpuEntry::Damaged;
+        return None;
     }
-    CpuEntry::Holds {
+    Some(CpuEntry::Holds {
         tree,
         start: f.start,
         count: f.count,
+    })
+}
+
+// What a CPU's entry says.
+pub fn look_cpu(cpus: &[u64], size: Size, cpu: usize) -> Result<CpuEntry, Fault>
+    ensures { result ≡ look_cpu_in size cpu cpus.now }
+{
+    if cpus.len() <= cpu {
+        return Err(Fault::NoEntry);
+    }
+    cpu_says(size, cpus[cpu]).ok_or(Fault::Damaged)
+}
+
+// What an entry has besides its tree.
+#[derive(Clone, Copy)]
+struct Held {
+    start: u8,
+    count: u16,
+}
+
+// The entry, if it holds the tree.
+fn held_at(cpus: &[u64], size: Size, cpu: usize, tree: Tree) -> Result<Option<Held>, Fault>
+    ensures { result ≡ held_in size cpu tree cpus.now }
+{
+    let entry = look_cpu(cpus, size, cpu)?;
+    match entry {
+        CpuEntry::Absent => Ok(None),
+        CpuEntry::Holds {
+            tree: held,
+            start,
+            count,
+        } => {
+            if held != tree {
+                return Ok(None);
+            }
+            Ok(Some(Held { start, count }))
+        }
     }
 }
 
@@ -77,192 +114,116 @@ pub enum Claimed {
     Absent,
     Claimed { tree: Tree, start: u8 },
     Short(Tree),
-    Damaged,
-    NoCpu,
 }
 
-// An entry that holds a tree is changed; one that does not is left alone.
-#[derive(Clone, Copy)]
-pub enum Held {
-    Held,
-    Missed,
-    Damaged,
-    NoCpu,
-}
-
+// Rule 1, the second look: an entry that holds the tree is changed; one that does not is left alone.
 #[derive(Clone, Copy)]
 pub enum Again {
     Claimed(u8),
     Released(u16),
     Missed,
-    Damaged,
-    NoCpu,
 }
 
+// Rule 4: what the entry held.
 #[derive(Clone, Copy)]
-pub enum Released {
-    Count(u16),
-    Missed,
-    Damaged,
-    NoCpu,
-}
-
-#[derive(Clone, Copy)]
-pub enum Written {
-    Written,
-    Damaged,
-    NoCpu,
-}
-
-#[derive(Clone, Copy)]
-pub enum Stolen {
-    Absent,
-    Entry { tree: Tree, count: u16 },
-    Damaged,
-    NoCpu,
-}
-
-#[derive(Clone, Copy)]
-pub enum CpuLook {
-    Entry(CpuEntry),
-    NoCpu,
+pub struct Stolen {
+    pub tree: Tree,
+    pub count: u16,
 }
 
 // Rule 1: a count of at least `frames` loses `frames`, the claim.
-pub fn claim_own(cpus: &mut [u64], size: Size, cpu: usize, frames: u16) -> Claimed
+pub fn claim_own(cpus: &mut [u64], size: Size, cpu: usize, frames: u16) -> Result<Claimed, Fault>
     ensures { outcome result cpus.new ≡ claim_own_in size cpu frames cpus.old }
 {
-    if cpus.len() <= cpu {
-        return Claimed::NoCpu;
-    }
-    match cpu_says(size, cpus[cpu]) {
-        CpuEntry::Damaged => Claimed::Damaged,
-        CpuEntry::Absent => Claimed::Absent,
+    let entry = look_cpu(cpus, size, cpu)?;
+    match entry {
+        CpuEntry::Absent => Ok(Claimed::Absent),
         CpuEntry::Holds { tree, start, count } => {
             if count < frames {
-                return Claimed::Short(tree);
+                return Ok(Claimed::Short(tree));
             }
             // rule 1: the claim
             cpus[cpu] = join_cpu(tree, start, count - frames);
-            Claimed::Claimed { tree, start }
+            Ok(Claimed::Claimed { tree, start })
         }
     }
 }
 
-// The entry of a CPU that holds the tree counts `frames` more. A sum above the capacity is damaged.
-pub fn add_own(cpus: &mut [u64], size: Size, cpu: usize, tree: Tree, frames: u16) -> Held
+// The entry, if it holds the tree, counts `frames` more. A sum above the capacity is damaged.
+pub fn add_own(
+    cpus: &mut [u64],
+    size: Size,
+    cpu: usize,
+    tree: Tree,
+    frames: u16,
+) -> Result<bool, Fault>
     ensures { outcome result cpus.new ≡ add_own_in size cpu tree frames cpus.old }
 {
-    if cpus.len() <= cpu {
-        return Held::NoCpu;
-    }
-    match cpu_says(size, cpus[cpu]) {
-        CpuEntry::Damaged => Held::Damaged,
-        CpuEntry::Absent => Held::Missed,
-        CpuEntry::Holds {
-            tree: held,
-            start,
-            count,
-        } => {
-            if held.0 != tree.0 {
-                return Held::Missed;
-            }
-            if entries::capacity_of(size, tree) - count < frames {
-                return Held::Damaged;
-            }
-            // rule 1, giving back: the entry's count rises
-            cpus[cpu] = join_cpu(tree, start, count + frames);
-            Held::Held
-        }
-    }
+    let Some(Held { start, count }) = held_at(cpus, size, cpu, tree)? else {
+        return Ok(false);
+    };
+    let sum = entries::count_in(size, tree, count as u32 + frames as u32)?;
+    // rule 1, giving back: the entry's count rises
+    cpus[cpu] = join_cpu(tree, start, sum);
+    Ok(true)
 }
 
 // Rule 1, the second look: the entry, if it holds the tree, is claimed from, or released.
-pub fn claim_or_release(cpus: &mut [u64], size: Size, cpu: usize, tree: Tree, frames: u16) -> Again
+pub fn claim_or_release(
+    cpus: &mut [u64],
+    size: Size,
+    cpu: usize,
+    tree: Tree,
+    frames: u16,
+) -> Result<Again, Fault>
     ensures { outcome result cpus.new ≡ claim_or_release_in size cpu tree frames cpus.old }
 {
-    if cpus.len() <= cpu {
-        return Again::NoCpu;
+    let Some(Held { start, count }) = held_at(cpus, size, cpu, tree)? else {
+        return Ok(Again::Missed);
+    };
+    if count < frames {
+        // rule 2: the release
+        cpus[cpu] = 0;
+        return Ok(Again::Released(count));
     }
-    match cpu_says(size, cpus[cpu]) {
-        CpuEntry::Damaged => Again::Damaged,
-        CpuEntry::Absent => Again::Missed,
-        CpuEntry::Holds {
-            tree: held,
-            start,
-            count,
-        } => {
-            if held.0 != tree.0 {
-                return Again::Missed;
-            }
-            if count < frames {
-                // rule 2: the release
-                cpus[cpu] = 0;
-                return Again::Released(count);
-            }
-            // rule 1: the claim
-            cpus[cpu] = join_cpu(tree, start, count - frames);
-            Again::Claimed(start)
-        }
-    }
+    // rule 1: the claim
+    cpus[cpu] = join_cpu(tree, start, count - frames);
+    Ok(Again::Claimed(start))
 }
 
-// Rule 2: the entry, if it holds the tree, becomes absent.
-pub fn release(cpus: &mut [u64], size: Size, cpu: usize, tree: Tree) -> Released
+// Rule 2: the entry, if it holds the tree, becomes absent; what it counted.
+pub fn release(cpus: &mut [u64], size: Size, cpu: usize, tree: Tree) -> Result<Option<u16>, Fault>
     ensures { outcome result cpus.new ≡ release_in size cpu tree cpus.old }
 {
-    if cpus.len() <= cpu {
-        return Released::NoCpu;
-    }
-    match cpu_says(size, cpus[cpu]) {
-        CpuEntry::Damaged => Released::Damaged,
-        CpuEntry::Absent => Released::Missed,
-        CpuEntry::Holds {
-            tree: held,
-            start: _,
-            count,
-        } => {
-            if held.0 != tree.0 {
-                return Released::Missed;
-            }
-            // rule 2: the release
-            cpus[cpu] = 0;
-            Released::Count(count)
-        }
-    }
+    let Some(Held { start: _, count }) = held_at(cpus, size, cpu, tree)? else {
+        return Ok(None);
+    };
+    // rule 2: the release
+    cpus[cpu] = 0;
+    Ok(Some(count))
 }
 
 // Rule 3: the entry anew, with start child 0. A tree that the zone has not, or a count above its capacity, is damaged.
-pub fn write(cpus: &mut [u64], size: Size, cpu: usize, tree: Tree, count: u16) -> Written
+pub fn write(cpus: &mut [u64], size: Size, cpu: usize, tree: Tree, count: u16) -> Result<(), Fault>
     ensures { outcome result cpus.new ≡ write_in size cpu tree count cpus.old }
 {
-    if cpus.len() <= cpu {
-        return Written::NoCpu;
-    }
-    if let CpuEntry::Damaged = cpu_says(size, cpus[cpu]) {
-        return Written::Damaged;
-    }
+    look_cpu(cpus, size, cpu)?;
     if entries::trees_of(size) <= tree.0 {
-        return Written::Damaged;
+        return Err(Fault::Damaged);
     }
-    if entries::capacity_of(size, tree) < count {
-        return Written::Damaged;
-    }
+    let count = entries::count_in(size, tree, count as u32)?;
     // rule 3: the entry anew
     cpus[cpu] = join_cpu(tree, 0, count);
-    Written::Written
+    Ok(())
 }
 
-// Rule 4: a present entry becomes absent.
-pub fn steal(cpus: &mut [u64], size: Size, cpu: usize) -> Stolen
+// Rule 4: a present entry becomes absent; what it held.
+pub fn steal(cpus: &mut [u64], size: Size, cpu: usize) -> Result<Option<Stolen>, Fault>
     ensures { outcome result cpus.new ≡ steal_in size cpu cpus.old }
 {
-    if cpus.len() <= cpu {
-        return Stolen::NoCpu;
-    }
-    match cpu_says(size, cpus[cpu]) {
-        CpuEntry::Damaged => Stolen::Damaged,
-        CpuEntry::Absent => Stolen::Absent,
+    let entry = look_cpu(cpus, size, cpu)?;
+    match entry {
+        CpuEntry::Absent => Ok(None),
         CpuEntry::Holds {
             tree,
             start: _,
@@ -270,57 +231,40 @@ pub fn steal(cpus: &mut [u64], size: Size, cpu: usize) -> Stolen
         } => {
             // rule 4: the steal
             cpus[cpu] = 0;
-            Stolen::Entry { tree, count }
+            Ok(Some(Stolen { tree, count }))
         }
     }
 }
 
 // Rule 6: the entry, if it holds the tree, gets a start child. One that the tree has not is damaged.
-pub fn set_start(cpus: &mut [u64], size: Size, cpu: usize, tree: Tree, child: u8) -> Held
+pub fn set_start(
+    cpus: &mut [u64],
+    size: Size,
+    cpu: usize,
+    tree: Tree,
+    child: u8,
+) -> Result<bool, Fault>
     ensures { outcome result cpus.new ≡ set_start_in size cpu tree child cpus.old }
 {
-    if cpus.len() <= cpu {
-        return Held::NoCpu;
+    let Some(Held { start: _, count }) = held_at(cpus, size, cpu, tree)? else {
+        return Ok(false);
+    };
+    if entries::children_of(size, tree) <= child as u16 {
+        return Err(Fault::Damaged);
     }
-    match cpu_says(size, cpus[cpu]) {
-        CpuEntry::Damaged => Held::Damaged,
-        CpuEntry::Absent => Held::Missed,
-        CpuEntry::Holds {
-            tree: held,
-            start: _,
-            count,
-        } => {
-            if held.0 != tree.0 {
-                return Held::Missed;
-            }
-            if entries::children_of(size, tree) <= child as u16 {
-                return Held::Damaged;
-            }
-            // rule 6: the start child
-            cpus[cpu] = join_cpu(tree, child, count);
-            Held::Held
-        }
-    }
+    // rule 6: the start child
+    cpus[cpu] = join_cpu(tree, child, count);
+    Ok(true)
 }
 
 // Create and open: an absent entry, whatever stood there.
-pub fn store_absent(cpus: &mut [u64], cpu: usize) -> Stored
+pub fn store_absent(cpus: &mut [u64], cpu: usize) -> Result<(), Fault>
     ensures { outcome result cpus.new ≡ stored_in cpu 0 cpus.old }
 {
     if cpus.len() <= cpu {
-        return Stored::NoEntry;
+        return Err(Fault::NoEntry);
     }
     // create and open: a CPU's entry
     cpus[cpu] = 0;
-    Stored::Stored
-}
-
-// What a CPU's entry says.
-pub fn look_cpu(cpus: &[u64], size: Size, cpu: usize) -> CpuLook
-    ensures { result ≡ look_cpu_in size cpu cpus.now }
-{
-    if cpus.len() <= cpu {
-        return CpuLook::NoCpu;
-    }
-    CpuLook::Entry(cpu_says(size, cpus[cpu]))
+    Ok(())
 }

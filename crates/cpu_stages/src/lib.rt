@@ -10,24 +10,24 @@ ghost use Rattle.places.specs.Shapes.{shape_of, ranged};
 ghost use Rattle.cpu_stages.specs.Tables.{in_cpus};
 ghost use Rattle.cpu_stages.specs.Answers.{own_answer, held_answer, again_answer, release_answer, write_answer, steal_answer};
 
-use cpu_entries::{Again, Claimed, Held, Released, Stolen, Written};
-use places::{BlockAt, Shape};
-use rules::{Answer, Block, Found, Giving, Order, Pass, Place, Taking, Tree};
+use cpu_entries::{Again, Claimed, Stolen};
+use places::Shape;
+use rules::{Answer, Block, Fault, Found, Giving, Order, Pass, Place, Taking, Tree};
 
 // ---- rule 1: the own entry
 
-fn own_answer(shape: Shape, cpu: u8, order: Order, said: Claimed) -> Answer
+fn own_answer(shape: Shape, cpu: u8, order: Order, said: Result<Claimed, Fault>) -> Answer
     ensures { result ≡ own_answer (shape_of shape) cpu order said }
 {
     match said {
-        Claimed::Absent => calls::get(
+        Ok(Claimed::Absent) => calls::get(
             cpu,
             Taking::Try {
                 order,
                 pass: Pass::Partial(Tree(0)),
             },
         ),
-        Claimed::Claimed { tree, start } => calls::get(
+        Ok(Claimed::Claimed { tree, start }) => calls::get(
             cpu,
             Taking::Child {
                 order,
@@ -36,9 +36,8 @@ fn own_answer(shape: Shape, cpu: u8, order: Order, said: Claimed) -> Answer
                 child: start,
             },
         ),
-        Claimed::Short(tree) => calls::get(cpu, Taking::TakeCount { order, tree }),
-        Claimed::Damaged => Answer::Damaged,
-        Claimed::NoCpu => Answer::BadRecord,
+        Ok(Claimed::Short(tree)) => calls::get(cpu, Taking::TakeCount { order, tree }),
+        Err(fault) => Answer::from(fault),
     }
 }
 
@@ -50,14 +49,13 @@ pub fn own(cpus: &mut [u64], shape: Shape, cpu: u8, order: Order) -> Answer
 }
 
 // The answer of an entry that holds the tree, and of one that does not.
-fn held_answer(holds: Answer, misses: Answer, said: Held) -> Answer
+fn held_answer(holds: Answer, misses: Answer, said: Result<bool, Fault>) -> Answer
     ensures { result ≡ held_answer holds misses said }
 {
     match said {
-        Held::Held => holds,
-        Held::Missed => misses,
-        Held::Damaged => Answer::Damaged,
-        Held::NoCpu => Answer::BadRecord,
+        Ok(true) => holds,
+        Ok(false) => misses,
+        Err(fault) => Answer::from(fault),
     }
 }
 
@@ -80,11 +78,17 @@ pub fn fill_entry(
     )
 }
 
-fn again_answer(shape: Shape, cpu: u8, order: Order, tree: Tree, said: Again) -> Answer
+fn again_answer(
+    shape: Shape,
+    cpu: u8,
+    order: Order,
+    tree: Tree,
+    said: Result<Again, Fault>,
+) -> Answer
     ensures { result ≡ again_answer (shape_of shape) cpu order tree said }
 {
     match said {
-        Again::Claimed(start) => calls::get(
+        Ok(Again::Claimed(start)) => calls::get(
             cpu,
             Taking::Child {
                 order,
@@ -93,7 +97,7 @@ fn again_answer(shape: Shape, cpu: u8, order: Order, tree: Tree, said: Again) ->
                 child: start,
             },
         ),
-        Again::Released(hand) => calls::get(
+        Ok(Again::Released(hand)) => calls::get(
             cpu,
             Taking::Unreserve {
                 order,
@@ -101,12 +105,11 @@ fn again_answer(shape: Shape, cpu: u8, order: Order, tree: Tree, said: Again) ->
                 hand,
             },
         ),
-        Again::Missed => calls::get(
+        Ok(Again::Missed) => calls::get(
             cpu,
             places::after_place(shape, cpu, order, Place::Own(tree)),
         ),
-        Again::Damaged => Answer::Damaged,
-        Again::NoCpu => Answer::BadRecord,
+        Err(fault) => Answer::from(fault),
     }
 }
 
@@ -126,14 +129,19 @@ pub fn look_again(cpus: &mut [u64], shape: Shape, cpu: u8, order: Order, tree: T
 
 // ---- rule 2
 
-fn release_answer(shape: Shape, cpu: u8, order: Order, place: Place, said: Released) -> Answer
+fn release_answer(
+    shape: Shape,
+    cpu: u8,
+    order: Order,
+    place: Place,
+    said: Result<Option<u16>, Fault>,
+) -> Answer
     ensures { result ≡ release_answer (shape_of shape) cpu order place said }
 {
     match said {
-        Released::Count(hand) => calls::get(cpu, Taking::Unreserve { order, place, hand }),
-        Released::Missed => calls::get(cpu, places::after_place(shape, cpu, order, place)),
-        Released::Damaged => Answer::Damaged,
-        Released::NoCpu => Answer::BadRecord,
+        Ok(Some(hand)) => calls::get(cpu, Taking::Unreserve { order, place, hand }),
+        Ok(None) => calls::get(cpu, places::after_place(shape, cpu, order, place)),
+        Err(fault) => Answer::from(fault),
     }
 }
 
@@ -146,11 +154,17 @@ pub fn release(cpus: &mut [u64], shape: Shape, cpu: u8, order: Order, place: Pla
 
 // ---- rule 3: the own entry anew
 
-fn write_answer(shape: Shape, cpu: u8, order: Order, found: Found, said: Written) -> Answer
+fn write_answer(
+    shape: Shape,
+    cpu: u8,
+    order: Order,
+    found: Found,
+    said: Result<(), Fault>,
+) -> Answer
     ensures { result ≡ write_answer (shape_of shape) cpu order found said }
 {
     match said {
-        Written::Written => calls::get(
+        Ok(()) => calls::get(
             cpu,
             Taking::Child {
                 order,
@@ -159,8 +173,7 @@ fn write_answer(shape: Shape, cpu: u8, order: Order, found: Found, said: Written
                 child: 0,
             },
         ),
-        Written::Damaged => Answer::Damaged,
-        Written::NoCpu => Answer::BadRecord,
+        Err(fault) => Answer::from(fault),
     }
 }
 
@@ -193,12 +206,18 @@ pub fn write(
 
 // ---- rule 4
 
-fn steal_answer(shape: Shape, cpu: u8, order: Order, from: u8, said: Stolen) -> Answer
+fn steal_answer(
+    shape: Shape,
+    cpu: u8,
+    order: Order,
+    from: u8,
+    said: Result<Option<Stolen>, Fault>,
+) -> Answer
     ensures { result ≡ steal_answer (shape_of shape) cpu order from said }
 {
     match said {
-        Stolen::Absent => calls::get(cpu, places::after_steal(shape, cpu, order, from)),
-        Stolen::Entry { tree, count } => calls::get(
+        Ok(None) => calls::get(cpu, places::after_steal(shape, cpu, order, from)),
+        Ok(Some(Stolen { tree, count })) => calls::get(
             cpu,
             Taking::StealCount {
                 order,
@@ -207,8 +226,7 @@ fn steal_answer(shape: Shape, cpu: u8, order: Order, from: u8, said: Stolen) -> 
                 hand: count,
             },
         ),
-        Stolen::Damaged => Answer::Damaged,
-        Stolen::NoCpu => Answer::BadRecord,
+        Err(fault) => Answer::from(fault),
     }
 }
 
@@ -226,9 +244,9 @@ pub fn last(cpus: &mut [u64], shape: Shape, cpu: u8, block: Block) -> Answer
     ensures { outcome result cpus.new ≡ ranged (shape_of shape) block (in_cpus (shape_of shape) (take (shape_of shape) cpu (Taking.Last block))) cpus.old }
 {
     match places::block_at(shape, block) {
-        BlockAt::Nowhere => Answer::BadRecord,
-        BlockAt::At { tree, child } => {
-            let said = cpu_entries::set_start(cpus, shape.size, cpu as usize, tree, child);
+        None => Answer::BadRecord,
+        Some(at) => {
+            let said = cpu_entries::set_start(cpus, shape.size, cpu as usize, at.tree, at.child);
             let done = Answer::Done(places::first_of(block));
             held_answer(done, done, said)
         }
@@ -240,13 +258,13 @@ pub fn to_entry(cpus: &mut [u64], shape: Shape, cpu: u8, block: Block) -> Answer
     ensures { outcome result cpus.new ≡ ranged (shape_of shape) block (in_cpus (shape_of shape) (give (shape_of shape) cpu (Giving.ToEntry block))) cpus.old }
 {
     match places::block_at(shape, block) {
-        BlockAt::Nowhere => Answer::BadRecord,
-        BlockAt::At { tree, child: _ } => {
+        None => Answer::BadRecord,
+        Some(at) => {
             let said = cpu_entries::add_own(
                 cpus,
                 shape.size,
                 cpu as usize,
-                tree,
+                at.tree,
                 places::block_frames(block),
             );
             held_answer(

@@ -1,6 +1,6 @@
 -- The types of the crates below, under one name.
+pub use Rattle.rules.specs.declared.Fault.{Fault}
 pub use Rattle.rules.specs.declared.Answer.{Answer}
 pub use Rattle.rules.specs.declared.Creating.{Creating}
 pub use Rattle.rules.specs.declared.Record.{Record}
 pub use Rattle.places.specs.declared.Shape.{Shape}
-pub use Rattle.calls.specs.declared.Checked.{Checked}

@@ -12,8 +12,8 @@ ghost use Rattle.places.specs.Shapes.{shape_of};
 ghost use Rattle.calls.specs.Results.{zone, result_of, done, ran_to, Fits};
 ghost use Rattle.creating.specs.Creates.{creatable_in};
 
-use calls::{Checked, Ended, Next};
-use entries::{Added, Size};
+use calls::Ended;
+use entries::Size;
 use places::Shape;
 use rules::{Answer, Creating, Frame, Huge, Record, Tree};
 
@@ -29,26 +29,23 @@ fn creatable(
     children: usize,
     trees: usize,
     cpus: usize,
-) -> Checked
+) -> Result<Shape, Answer>
     ensures { result ≡ creatable_in huge header words children trees cpus }
 {
-    if huge == 0 {
-        return Checked::Refused(Answer::BadSize);
-    }
-    if MOST_HUGE < huge {
-        return Checked::Refused(Answer::BadSize);
+    if !(1..=MOST_HUGE).contains(&huge) {
+        return Err(Answer::BadSize);
     }
     if header != 1 {
-        return Checked::Refused(Answer::BadBuffers);
+        return Err(Answer::BadBuffers);
     }
     let size = Size((huge - 1) as u16);
     if entries::lengths_fit(size, words, children, trees, cpus) {
-        return Checked::Zone(Shape {
+        return Ok(Shape {
             size,
             cpus: cpus as u8,
         });
     }
-    Checked::Refused(Answer::BadBuffers)
+    Err(Answer::BadBuffers)
 }
 
 // ---- the first step
@@ -72,10 +69,10 @@ pub fn create(
         trees.len(),
         cpus.len(),
     ) {
-        Checked::Refused(answer) => answer,
-        Checked::Zone(_) => match entries::store_unborn(header) {
-            entries::Stored::Stored => creating(Creating::Words(0)),
-            entries::Stored::NoEntry => Answer::BadBuffers,
+        Err(answer) => answer,
+        Ok(_) => match entries::store_unborn(header) {
+            Ok(()) => creating(Creating::Words(0)),
+            Err(_) => Answer::BadBuffers,
         },
     }
 }
@@ -94,13 +91,13 @@ fn fresh_word(words: &mut [u64], shape: Shape, at: u32) -> Answer
     ensures { result_of result (zone [] words.new [] [] []) ≡ done (zone [] words.old [] [] []) (create_stage (shape_of shape) (Creating.Words at)) }
 {
     match lower::store_fresh_word(words, at as usize) {
-        lower::Stored::Stored => {
+        Ok(()) => {
             if at + 1 < CHILD_WORDS * entries::huge_frames(shape.size) {
                 return creating(Creating::Words(at + 1));
             }
             creating(Creating::Children(Huge(0)))
         }
-        lower::Stored::NoEntry => Answer::BadRecord,
+        Err(fault) => Answer::from(fault),
     }
 }
 
@@ -110,13 +107,13 @@ fn fresh_child(children: &mut [u16], shape: Shape, huge: Huge) -> Answer
     ensures { result_of result (zone [] [] children.new [] []) ≡ done (zone [] [] children.old [] []) (create_stage (shape_of shape) (Creating.Children huge)) }
 {
     match lower::store_fresh_child(children, huge.0 as usize) {
-        lower::Stored::Stored => {
+        Ok(()) => {
             if huge.0 + 1 < entries::huge_frames(shape.size) {
                 return creating(Creating::Children(Huge(huge.0 + 1)));
             }
             creating(Creating::Trees(Tree(0)))
         }
-        lower::Stored::NoEntry => Answer::BadRecord,
+        Err(fault) => Answer::from(fault),
     }
 }
 
@@ -131,14 +128,13 @@ fn fresh_tree(trees: &mut [u16], shape: Shape, tree: Tree) -> Answer
         tree,
         entries::capacity_of(shape.size, tree) as u32,
     ) {
-        Added::Added => {
+        Ok(()) => {
             if tree.0 + 1 < entries::trees_of(shape.size) {
                 return creating(Creating::Trees(Tree(tree.0 + 1)));
             }
             creating(Creating::Cpus(0))
         }
-        Added::Damaged => Answer::Damaged,
-        Added::NoTree => Answer::BadRecord,
+        Err(fault) => Answer::from(fault),
     }
 }
 
@@ -148,13 +144,13 @@ fn fresh_cpu(cpus: &mut [u64], shape: Shape, cpu: u8) -> Answer
     ensures { result_of result (zone [] [] [] [] cpus.new) ≡ done (zone [] [] [] [] cpus.old) (create_stage (shape_of shape) (Creating.Cpus cpu)) }
 {
     match cpu_entries::store_absent(cpus, cpu as usize) {
-        entries::Stored::Stored => {
+        Ok(()) => {
             if cpu + 1 < shape.cpus {
                 return creating(Creating::Cpus(cpu + 1));
             }
             creating(Creating::Header)
         }
-        entries::Stored::NoEntry => Answer::BadRecord,
+        Err(fault) => Answer::from(fault),
     }
 }
 
@@ -164,8 +160,8 @@ fn born(header: &mut [u64], shape: Shape) -> Answer
     ensures { result_of result (zone header.new [] [] [] []) ≡ done (zone header.old [] [] [] []) (create_stage (shape_of shape) Creating.Header) }
 {
     match entries::store_running(header, shape.size) {
-        entries::Stored::Stored => Answer::Done(Frame(0)),
-        entries::Stored::NoEntry => Answer::BadBuffers,
+        Ok(()) => Answer::Done(Frame(0)),
+        Err(_) => Answer::BadBuffers,
     }
 }
 
@@ -210,8 +206,8 @@ pub fn create_step(
         trees.len(),
         cpus.len(),
     ) {
-        Checked::Refused(answer) => answer,
-        Checked::Zone(shape) => match rec {
+        Err(answer) => answer,
+        Ok(shape) => match rec {
             Record::Finished => Answer::BadRecord,
             Record::Get { cpu: _, stage: _ } => Answer::BadRecord,
             Record::Put { cpu: _, stage: _ } => Answer::BadRecord,
@@ -242,23 +238,6 @@ pub fn run(
 ) -> Ended
     ensures { ran_to result (zone header.new words.new children.new trees.new cpus.new) ≡ follow (create_step huge) (max 1 fuel) 0 (Answer.UnderWay rec) (zone header.old words.old children.old trees.old cpus.old) }
 {
-    let most = calls::at_least_one(fuel);
-    let mut at = rec;
-    let mut steps: u64 = 0;
-    while steps < most {
-        let answer = create_step(header, words, children, trees, cpus, huge, at);
-        steps += 1;
-        match calls::next_of(answer) {
-            Next::Ends => {
-                return Ended { answer, steps };
-            }
-            Next::GoesOn(next) => {
-                at = next;
-            }
-        }
-    }
-    Ended {
-        answer: Answer::UnderWay(at),
-        steps,
-    }
+    let mut step = |at: Record| create_step(header, words, children, trees, cpus, huge, at);
+    calls::follow(&mut step, rec, 0, calls::at_least_one(fuel))
 }

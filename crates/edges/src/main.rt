@@ -3,158 +3,120 @@
 
 ghost use Rattle.std.specs.Prelude.{◌≡◌, ◌≤◌, ◌<◌, length};
 
-use lower::{Claimed, Empty, Given, Looked, Recounted, Searched, Stored, Summed, Taken, Zeros};
-use rules::{Bit, ChildEntry, Gave, Run, Took};
+use rules::{ChildEntry, Fault, Frame, Run, Took};
 use std::io::{Print, Stdout};
 
-fn name(out: Stdout, text: &[u8]) {
+fn line(out: Stdout, text: &[u8], numbers: &[u64]) {
     let _ = out.write_all(text);
-}
-
-fn number(out: Stdout, n: u64) {
-    let _ = out.write_all(b" ");
-    let _ = out.print(n);
-}
-
-fn wide(n: u16) -> u64 {
-    n as u64
-}
-
-fn end(out: Stdout) {
+    for number in numbers {
+        let _ = out.write_all(b" ");
+        let _ = out.print(*number);
+    }
     let _ = out.write_all(b"\n");
-}
-
-fn line2(out: Stdout, text: &[u8], a: u64, b: u64) {
-    name(out, text);
-    number(out, a);
-    number(out, b);
-    end(out);
-}
-
-fn line3(out: Stdout, text: &[u8], a: u64, b: u64, c: u64) {
-    name(out, text);
-    number(out, a);
-    number(out, b);
-    number(out, c);
-    end(out);
-}
-
-fn line4(out: Stdout, text: &[u8], a: u64, b: u64, c: u64, d: u64) {
-    name(out, text);
-    number(out, a);
-    number(out, b);
-    number(out, c);
-    number(out, d);
-    end(out);
-}
-
-fn line5(out: Stdout, text: &[u8], a: u64, b: u64, c: u64, d: u64, e: u64) {
-    name(out, text);
-    number(out, a);
-    number(out, b);
-    number(out, c);
-    number(out, d);
-    number(out, e);
-    end(out);
 }
 
 // ---- answers as numbers
 
-fn claimed(c: Claimed) -> u64 {
-    match c {
-        Claimed::Entry(t) => match t {
-            Took::Taken => 0,
-            Took::Passed => 1,
-            Took::Damaged => 2,
-        },
-        Claimed::NoChild => 3,
+// A fault that the call has no number for.
+const NO_NUMBER: u64 = 999999999;
+
+fn claimed(said: Result<Took, Fault>) -> u64 {
+    match said {
+        Ok(Took::Taken) => 0,
+        Ok(Took::Passed) => 1,
+        Err(Fault::Damaged) => 2,
+        Err(Fault::NoChild) => 3,
+        Err(_) => NO_NUMBER,
     }
 }
 
-fn given(g: Given) -> u64 {
-    match g {
-        Given::Entry(e) => match e {
-            Gave::Given => 0,
-            Gave::NotTaken => 1,
-            Gave::Damaged => 2,
-        },
-        Given::NoChild => 3,
-        Given::NoWord => 4,
-        Given::NoBit => 5,
+fn given(said: Result<(), Fault>) -> u64 {
+    match said {
+        Ok(()) => 0,
+        Err(Fault::NotTaken) => 1,
+        Err(Fault::Damaged) => 2,
+        Err(Fault::NoChild) => 3,
+        Err(Fault::NoWord) => 4,
+        Err(Fault::NoBit) => 5,
+        Err(_) => NO_NUMBER,
     }
 }
 
 // A bit is its number, 0 to 63.
-fn taken(t: Taken) -> u64 {
-    match t {
-        Taken::Word(b) => match b {
-            Bit::At(bit) => bit as u64,
-            Bit::Full => 64,
-        },
-        Taken::NoChild => 65,
-        Taken::NoWord => 66,
+fn taken(said: Result<Option<u8>, Fault>) -> u64 {
+    match said {
+        Ok(Some(bit)) => bit as u64,
+        Ok(None) => 64,
+        Err(Fault::NoChild) => 65,
+        Err(Fault::NoWord) => 66,
+        Err(_) => NO_NUMBER,
     }
 }
 
 // A count is itself.
-fn looked(l: Looked) -> u64 {
-    match l {
-        Looked::Entry(e) => match e {
-            ChildEntry::Counts(k) => k as u64,
-            ChildEntry::Flagged => 1000,
-            ChildEntry::Damaged => 1001,
-        },
-        Looked::NoChild => 1002,
+fn looked(said: Result<ChildEntry, Fault>) -> u64 {
+    match said {
+        Ok(ChildEntry::Counts(count)) => count as u64,
+        Ok(ChildEntry::Flagged) => 1000,
+        Err(Fault::Damaged) => 1001,
+        Err(Fault::NoChild) => 1002,
+        Err(_) => NO_NUMBER,
     }
 }
 
-fn stored(s: Stored) -> u64 {
-    match s {
-        Stored::Stored => 0,
-        Stored::NoEntry => 1,
+fn stored(said: Result<(), Fault>) -> u64 {
+    match said {
+        Ok(()) => 0,
+        Err(Fault::NoEntry) => 1,
+        Err(_) => NO_NUMBER,
     }
 }
 
-fn recounted(r: Recounted) -> u64 {
-    match r {
-        Recounted::Stored => 0,
-        Recounted::Damaged => 1,
-        Recounted::NoChild => 2,
-        Recounted::NoField => 3,
+fn recounted(said: Result<(), Fault>) -> u64 {
+    match said {
+        Ok(()) => 0,
+        Err(Fault::Damaged) => 1,
+        Err(Fault::NoChild) => 2,
+        Err(Fault::NoField) => 3,
+        Err(_) => NO_NUMBER,
     }
 }
 
-fn zeros(z: Zeros) -> u64 {
-    match z {
-        Zeros::Bits(n) => n as u64,
-        Zeros::NoField => 1000,
+fn zeros(said: Result<u16, Fault>) -> u64 {
+    match said {
+        Ok(bits) => bits as u64,
+        Err(Fault::NoField) => 1000,
+        Err(_) => NO_NUMBER,
     }
 }
 
-fn empty(e: Empty) -> u64 {
-    match e {
-        Empty::Yes => 0,
-        Empty::No => 1,
-        Empty::NoField => 2,
+fn empty(said: Result<bool, Fault>) -> u64 {
+    match said {
+        Ok(true) => 0,
+        Ok(false) => 1,
+        Err(Fault::NoField) => 2,
+        Err(_) => NO_NUMBER,
     }
 }
 
-fn summed(s: Summed) -> u64 {
-    match s {
-        Summed::Frames(n) => n as u64,
-        Summed::TooMany => 100000000,
+fn summed(said: Result<u32, Fault>) -> u64 {
+    match said {
+        Ok(frames) => frames as u64,
+        Err(Fault::TooMany) => 100000000,
+        Err(_) => NO_NUMBER,
     }
 }
 
 // A frame is its number.
-fn searched(s: Searched) -> u64 {
-    match s {
-        Searched::Frame(f) => f.0,
-        Searched::Nothing => 100000,
-        Searched::Damaged => 100001,
-        Searched::NoChild => 100002,
-        Searched::NoField => 100003,
-        Searched::TooMany => 100004,
+fn searched(said: Result<Option<Frame>, Fault>) -> u64 {
+    match said {
+        Ok(Some(frame)) => frame.0,
+        Ok(None) => 100000,
+        Err(Fault::Damaged) => 100001,
+        Err(Fault::NoChild) => 100002,
+        Err(Fault::NoField) => 100003,
+        Err(Fault::TooMany) => 100004,
+        Err(_) => NO_NUMBER,
     }
 }
 
@@ -163,48 +125,45 @@ fn searched(s: Searched) -> u64 {
 fn claim(out: Stdout, entry: u16, size: u16) {
     let mut children = [entry];
     let said = claimed(lower::claim(&mut children, 0, size));
-    line4(
+    line(
         out,
         b"claim",
-        entry as u64,
-        size as u64,
-        said,
-        wide(children[0]),
+        &[entry as u64, size as u64, said, children[0] as u64],
     );
 }
 
 fn give_count(out: Stdout, entry: u16, size: u16) {
     let mut children = [entry];
     let said = given(lower::give_count(&mut children, 0, size));
-    line4(
+    line(
         out,
         b"give_count",
-        entry as u64,
-        size as u64,
-        said,
-        wide(children[0]),
+        &[entry as u64, size as u64, said, children[0] as u64],
     );
 }
 
 fn take_huge(out: Stdout, entry: u16) {
     let mut children = [entry];
     let said = claimed(lower::take_huge(&mut children, 0));
-    line3(out, b"take_huge", entry as u64, said, wide(children[0]));
+    line(out, b"take_huge", &[entry as u64, said, children[0] as u64]);
 }
 
 fn clear_huge(out: Stdout, entry: u16) {
     let mut children = [entry];
     let said = given(lower::clear_huge(&mut children, 0));
-    line3(out, b"clear_huge", entry as u64, said, wide(children[0]));
+    line(
+        out,
+        b"clear_huge",
+        &[entry as u64, said, children[0] as u64],
+    );
 }
 
 fn look(out: Stdout, entry: u16) {
     let children = [entry];
-    line2(
+    line(
         out,
         b"look",
-        entry as u64,
-        looked(lower::look(&children, 0)),
+        &[entry as u64, looked(lower::look(&children, 0))],
     );
 }
 
@@ -214,34 +173,24 @@ fn store_recount(out: Stdout, entry: u16, last: u64) {
     let full = u64::MAX;
     let words = [full, full, full, full, full, full, full, last];
     let said = recounted(lower::store_recount(&mut children, &words, 0));
-    line4(
+    line(
         out,
         b"store_recount",
-        entry as u64,
-        last,
-        said,
-        wide(children[0]),
+        &[entry as u64, last, said, children[0] as u64],
     );
 }
 
 fn entry(out: Stdout, e: u16) {
-    claim(out, e, 0);
-    give_count(out, e, 0);
-    claim(out, e, 1);
-    give_count(out, e, 1);
-    claim(out, e, 511);
-    give_count(out, e, 511);
-    claim(out, e, 512);
-    give_count(out, e, 512);
-    claim(out, e, 513);
-    give_count(out, e, 513);
+    for size in [0, 1, 511, 512, 513] {
+        claim(out, e, size);
+        give_count(out, e, size);
+    }
     take_huge(out, e);
     clear_huge(out, e);
     look(out, e);
-    store_recount(out, e, 0);
-    store_recount(out, e, FULL);
-    store_recount(out, e, FIRST);
-    store_recount(out, e, LAST);
+    for last in [0, FULL, FIRST, LAST] {
+        store_recount(out, e, last);
+    }
 }
 
 // ---- one word of a field of ones, with what each step makes of it
@@ -268,42 +217,49 @@ fn take_run(out: Stdout, word: usize, value: u64, run: Run)
 {
     let mut words = field(word, value);
     let said = taken(lower::take_run(&mut words, 0, word, run));
-    line5(
+    line(
         out,
         b"take_run",
-        wide(rules::frames_of(run)),
-        word as u64,
-        value,
-        said,
-        words[word],
+        &[
+            rules::frames_of(run) as u64,
+            word as u64,
+            value,
+            said,
+            words[word],
+        ],
     );
 }
 
 fn clear_run(out: Stdout, value: u64, bit: u32, run: Run) {
     let mut words = field(7, value);
     let said = given(lower::clear_run(&mut words, 0, 7, bit, run));
-    line5(
+    line(
         out,
         b"clear_run",
-        wide(rules::frames_of(run)),
-        value,
-        bit as u64,
-        said,
-        words[7],
+        &[
+            rules::frames_of(run) as u64,
+            value,
+            bit as u64,
+            said,
+            words[7],
+        ],
     );
 }
 
 fn word(out: Stdout, w: u64) {
     take_run(out, 0, w, Run::One);
     take_run(out, 7, w, Run::One);
-    clear_run(out, w, 0, Run::One);
-    clear_run(out, w, 1, Run::One);
-    clear_run(out, w, 63, Run::One);
-    clear_run(out, w, 64, Run::One);
+    for bit in [0, 1, 63, 64] {
+        clear_run(out, w, bit, Run::One);
+    }
     let words = field(7, w);
-    line2(out, b"zero_bits", w, zeros(lower::zero_bits(&words, 0)));
+    line(out, b"zero_bits", &[w, zeros(lower::zero_bits(&words, 0))]);
     let alone = [0, 0, 0, 0, 0, 0, 0, w];
-    line2(out, b"field_empty", w, empty(lower::field_empty(&alone, 0)));
+    line(
+        out,
+        b"field_empty",
+        &[w, empty(lower::field_empty(&alone, 0))],
+    );
 }
 
 // Only bit 63 set; only bits 4 and 5 clear, a pair; only bits 5 and 6, no pair; only bit 0 and the last eight clear.
@@ -316,147 +272,174 @@ const NO_PAIR: u64 = 0xffff_ffff_ffff_ff9f;
 const ENDS: u64 = 0x00ff_ffff_ffff_fffe;
 
 fn runs(out: Stdout, w: u64) {
-    take_run(out, 7, w, Run::Two);
-    take_run(out, 7, w, Run::Eight);
-    take_run(out, 7, w, Run::SixtyFour);
+    for run in [Run::Two, Run::Eight, Run::SixtyFour] {
+        take_run(out, 7, w, run);
+    }
 }
 
 // Each size with all its bits set, with one of them clear, and past the word's end.
 fn clear_runs(out: Stdout) {
-    clear_run(out, FULL, 2, Run::Two);
-    clear_run(out, FIRST, 0, Run::Two);
-    clear_run(out, FULL, 63, Run::Two);
-    clear_run(out, FULL, 0xffff_ffff, Run::Two);
-    clear_run(out, FULL, 56, Run::Eight);
-    clear_run(out, LAST, 56, Run::Eight);
-    clear_run(out, FULL, 57, Run::Eight);
-    clear_run(out, FULL, 0, Run::SixtyFour);
-    clear_run(out, LAST, 0, Run::SixtyFour);
-    clear_run(out, FULL, 1, Run::SixtyFour);
+    for (value, bit, run) in [
+        (FULL, 2, Run::Two),
+        (FIRST, 0, Run::Two),
+        (FULL, 63, Run::Two),
+        (FULL, 0xffff_ffff, Run::Two),
+        (FULL, 56, Run::Eight),
+        (LAST, 56, Run::Eight),
+        (FULL, 57, Run::Eight),
+        (FULL, 0, Run::SixtyFour),
+        (LAST, 0, Run::SixtyFour),
+        (FULL, 1, Run::SixtyFour),
+    ] {
+        clear_run(out, value, bit, run);
+    }
 }
 
 // ---- slices of length 0, one short, right and one long; an index below the length, at it and past it
 
 fn claim_in(out: Stdout, children: &mut [u16], at: usize) {
-    line3(
+    line(
         out,
         b"claim_in",
-        children.len() as u64,
-        at as u64,
-        claimed(lower::claim(children, at, 1)),
+        &[
+            children.len() as u64,
+            at as u64,
+            claimed(lower::claim(children, at, 1)),
+        ],
     );
 }
 
 fn take_huge_in(out: Stdout, children: &mut [u16], at: usize) {
-    line3(
+    line(
         out,
         b"take_huge_in",
-        children.len() as u64,
-        at as u64,
-        claimed(lower::take_huge(children, at)),
+        &[
+            children.len() as u64,
+            at as u64,
+            claimed(lower::take_huge(children, at)),
+        ],
     );
 }
 
 fn give_count_in(out: Stdout, children: &mut [u16], at: usize) {
-    line3(
+    line(
         out,
         b"give_count_in",
-        children.len() as u64,
-        at as u64,
-        given(lower::give_count(children, at, 1)),
+        &[
+            children.len() as u64,
+            at as u64,
+            given(lower::give_count(children, at, 1)),
+        ],
     );
 }
 
 fn clear_huge_in(out: Stdout, children: &mut [u16], at: usize) {
-    line3(
+    line(
         out,
         b"clear_huge_in",
-        children.len() as u64,
-        at as u64,
-        given(lower::clear_huge(children, at)),
+        &[
+            children.len() as u64,
+            at as u64,
+            given(lower::clear_huge(children, at)),
+        ],
     );
 }
 
 fn fresh_child_in(out: Stdout, children: &mut [u16], at: usize) {
-    line3(
+    line(
         out,
         b"fresh_child_in",
-        children.len() as u64,
-        at as u64,
-        stored(lower::store_fresh_child(children, at)),
+        &[
+            children.len() as u64,
+            at as u64,
+            stored(lower::store_fresh_child(children, at)),
+        ],
     );
 }
 
 fn looks_in(out: Stdout, children: &[u16], at: usize) {
-    line3(
+    line(
         out,
         b"look_in",
-        children.len() as u64,
-        at as u64,
-        looked(lower::look(children, at)),
+        &[
+            children.len() as u64,
+            at as u64,
+            looked(lower::look(children, at)),
+        ],
     );
-    line2(
+    line(
         out,
         b"sum_in",
-        children.len() as u64,
-        summed(lower::sum(children)),
+        &[children.len() as u64, summed(lower::sum(children))],
     );
 }
 
 fn take_run_in(out: Stdout, words: &mut [u64], child: usize, at: usize) {
-    line4(
+    line(
         out,
         b"take_run_in",
-        words.len() as u64,
-        child as u64,
-        at as u64,
-        taken(lower::take_run(words, child, at, Run::One)),
+        &[
+            words.len() as u64,
+            child as u64,
+            at as u64,
+            taken(lower::take_run(words, child, at, Run::One)),
+        ],
     );
 }
 
 fn clear_run_in(out: Stdout, words: &mut [u64], child: usize, at: usize) {
-    line4(
+    line(
         out,
         b"clear_run_in",
-        words.len() as u64,
-        child as u64,
-        at as u64,
-        given(lower::clear_run(words, child, at, 0, Run::One)),
+        &[
+            words.len() as u64,
+            child as u64,
+            at as u64,
+            given(lower::clear_run(words, child, at, 0, Run::One)),
+        ],
     );
 }
 
 fn fresh_word_in(out: Stdout, words: &mut [u64], at: usize) {
-    line3(
+    line(
         out,
         b"fresh_word_in",
-        words.len() as u64,
-        at as u64,
-        stored(lower::store_fresh_word(words, at)),
+        &[
+            words.len() as u64,
+            at as u64,
+            stored(lower::store_fresh_word(words, at)),
+        ],
     );
 }
 
 fn fields_in(out: Stdout, words: &[u64], child: usize) {
-    line3(
+    line(
         out,
         b"zero_bits_in",
-        words.len() as u64,
-        child as u64,
-        zeros(lower::zero_bits(words, child)),
+        &[
+            words.len() as u64,
+            child as u64,
+            zeros(lower::zero_bits(words, child)),
+        ],
     );
-    line3(
+    line(
         out,
         b"field_empty_in",
-        words.len() as u64,
-        child as u64,
-        empty(lower::field_empty(words, child)),
+        &[
+            words.len() as u64,
+            child as u64,
+            empty(lower::field_empty(words, child)),
+        ],
     );
     let mut children = [1];
-    line3(
+    line(
         out,
         b"recount_in",
-        words.len() as u64,
-        child as u64,
-        recounted(lower::store_recount(&mut children, words, child)),
+        &[
+            words.len() as u64,
+            child as u64,
+            recounted(lower::store_recount(&mut children, words, child)),
+        ],
     );
 }
 
@@ -508,41 +491,43 @@ fn search(out: Stdout, start: usize, second: u16, third: u16, run: Run) {
     let mut words = [u64::MAX; 24];
     words[23] = 0x3fff_ffff_ffff_ffff;
     let said = searched(lower::search(&mut children, &mut words, start, run));
-    line5(
+    line(
         out,
         b"search",
-        wide(rules::frames_of(run)),
-        start as u64,
-        second as u64,
-        third as u64,
-        said,
+        &[
+            rules::frames_of(run) as u64,
+            start as u64,
+            second as u64,
+            third as u64,
+            said,
+        ],
     );
-    line4(
+    line(
         out,
         b"leaves",
-        wide(children[0]),
-        wide(children[1]),
-        wide(children[2]),
-        words[23],
+        &[
+            children[0] as u64,
+            children[1] as u64,
+            children[2] as u64,
+            words[23],
+        ],
     );
 }
 
 fn searches(out: Stdout, start: usize) {
-    search(out, start, 0, 2, Run::One);
-    search(out, start, 1, 2, Run::One);
-    search(out, start, 1, 0, Run::One);
-    search(out, start, 513, 2, Run::One);
+    for (second, third) in [(0, 2), (1, 2), (1, 0), (513, 2)] {
+        search(out, start, second, third, Run::One);
+    }
 }
 
 fn search_short(out: Stdout) {
     let mut children = [1, 1];
     let mut words = [0; 15];
-    name(out, b"search_short");
-    number(
+    line(
         out,
-        searched(lower::search(&mut children, &mut words, 0, Run::One)),
+        b"search_short",
+        &[searched(lower::search(&mut children, &mut words, 0, Run::One))],
     );
-    end(out);
 }
 
 // ---- one child more than a zone has
@@ -550,49 +535,38 @@ fn search_short(out: Stdout) {
 fn too_many(out: Stdout) {
     let mut children = [1; 65537];
     let mut words = [0; 8];
-    line3(
+    line(
         out,
         b"too_many",
-        summed(lower::sum(&children)),
-        summed(lower::sum(&children[..65536])),
-        searched(lower::search(&mut children, &mut words, 0, Run::One)),
+        &[
+            summed(lower::sum(&children)),
+            summed(lower::sum(&children[..65536])),
+            searched(lower::search(&mut children, &mut words, 0, Run::One)),
+        ],
     );
 }
 
 fn main(rt: HostRuntime) {
     let out = rt.stdout();
-    entry(out, 0);
-    entry(out, 1);
-    entry(out, 511);
-    entry(out, 512);
-    entry(out, 513);
-    entry(out, 0x8000);
-    entry(out, 0x8001);
-    entry(out, 0x81ff);
-    entry(out, 0x8200);
-    entry(out, 0x8201);
-    entry(out, 0x0400);
-    entry(out, 0xffff);
-    word(out, 0);
-    word(out, FULL);
-    word(out, FIRST);
-    word(out, LAST);
-    runs(out, 0);
-    runs(out, FULL);
-    runs(out, 1);
-    runs(out, TOP);
-    runs(out, PAIR);
-    runs(out, NO_PAIR);
-    runs(out, ENDS);
+    for e in [
+        0, 1, 511, 512, 513, 0x8000, 0x8001, 0x81ff, 0x8200, 0x8201, 0x0400, 0xffff,
+    ] {
+        entry(out, e);
+    }
+    for w in [0, FULL, FIRST, LAST] {
+        word(out, w);
+    }
+    for w in [0, FULL, 1, TOP, PAIR, NO_PAIR, ENDS] {
+        runs(out, w);
+    }
     clear_runs(out);
-    children_of(out, 0);
-    children_of(out, 1);
-    children_of(out, 2);
+    for at in 0..3 {
+        children_of(out, at);
+    }
     words_of(out);
-    searches(out, 0);
-    searches(out, 1);
-    searches(out, 2);
-    searches(out, 3);
+    for start in 0..4 {
+        searches(out, start);
+    }
     search(out, 1, 2, 2, Run::Two);
     search(out, 1, 2, 4, Run::Four);
     search_short(out);

@@ -1,4 +1,5 @@
 -- The header in code: split by shifts and masks, joined again, and what it says by its fields.
+use Rattle.std.specs.Prelude.{Option, Some, None, Result, Ok, Err}
 use mathlib.Core.Path.{◌≡◌, refl, sym, ap, ◌∙◌}
 use mathlib.Core.Logic.{◌≢◌}
 use mathlib.Core.List.{List, [], ◌∷◌}
@@ -13,7 +14,7 @@ use Rattle.laws.proofs.Tests.{pick_elim, pick_yes, pick_no, passes_of, fails_of}
 use Rattle.laws.proofs.Fields.{masked, joined, shifted}
 use Rattle.rules.specs.Numbers.{most_huge}
 use Rattle.rules.specs.Entries.{field, identifier, running, clean, header_says, header_word}
-use Rattle.entries.specs.Types.{Header, Size, Zoned, HeaderFields}
+use Rattle.entries.specs.Types.{Header, Answer, Size, Zoned, HeaderFields}
 use Rattle.entries.specs.Sizes.{sized, by_header}
 use Rattle.entries.specs.Split.{header_fields}
 use Rattle.entries.proofs.Fields.{top_field, low_field}
@@ -47,38 +48,38 @@ module _ (f : HeaderFields) where
   abbrev kept : List Check
   kept = f.identifier is identifier ∷ f.format is 1 ∷ 0 below f.huge ∷ f.huge below suc most_huge ∷ f.zero is 0 ∷ []
 
-  abbrev marked : Header
-  marked = pick (eqb f.marker running) (Header.Running f.huge) (pick (eqb f.marker clean) (Header.Clean f.huge) Header.Malformed)
+  abbrev marked : Option Header
+  marked = pick (eqb f.marker running) (Some (Header.Running f.huge)) (pick (eqb f.marker clean) (Some (Header.Clean f.huge)) None)
 
   -- the header of split fields
-  abbrev said_by : Header
-  said_by = pick (passes kept) marked Header.Malformed
+  abbrev said_by : Option Header
+  said_by = pick (passes kept) marked None
 
 -- as the code answers it
-abbrev zoned : Header → Zoned
-zoned h = by_header h Zoned.NotAZone (λ n. Zoned.Running (sized n)) (λ n. Zoned.Clean (sized n))
+abbrev zoned : Option Header → Result Zoned Answer
+zoned h = by_header h (Err Answer.NotAZone) (λ n. Ok (Zoned.Running (sized n))) (λ n. Ok (Zoned.Clean (sized n)))
 
 module _ (x : ℕ) {f : HeaderFields} (e : f ≡ header_fields x) where
-  whole : {v : Zoned} → v ≡ zoned (said_by f) → v ≡ zoned (header_says x)
+  whole : {v : Result Zoned Answer} → v ≡ zoned (said_by f) → v ≡ zoned (header_says x)
   unfolding header_says
   whole p = p ∙ ap (λ f. zoned (said_by f)) e
 
-  pub says_broken : (Passes (kept f) → ⊥) → Zoned.NotAZone ≡ zoned (header_says x)
+  pub says_broken : (Passes (kept f) → ⊥) → Err Answer.NotAZone ≡ zoned (header_says x)
   unfolding by_header
   says_broken n = whole (sym (ap zoned (pick_no _ _ _ (fails_of (kept f) n))))
 
-  pub says_unmarked : f.marker ≢ running → f.marker ≢ clean → Zoned.NotAZone ≡ zoned (header_says x)
+  pub says_unmarked : f.marker ≢ running → f.marker ≢ clean → Err Answer.NotAZone ≡ zoned (header_says x)
   unfolding by_header
-  says_unmarked n m = whole (pick_elim (λ h. Zoned.NotAZone ≡ zoned h) (passes (kept f)) (λ b. sym (ap zoned (pick_no _ _ _ (ne_eqb _ _ n) ∙ pick_no _ _ _ (ne_eqb _ _ m)))) (λ b. refl))
+  says_unmarked n m = whole (pick_elim (λ h. Err Answer.NotAZone ≡ zoned h) (passes (kept f)) (λ b. sym (ap zoned (pick_no _ _ _ (ne_eqb _ _ n) ∙ pick_no _ _ _ (ne_eqb _ _ m)))) (λ b. refl))
 
   module _ (a : f.identifier ≡ identifier) (b : f.format ≡ 1) (n : f.huge ≢ 0) (h : f.huge ≤ most_huge) (z : f.zero ≡ 0) where
     laid_out_lem : said_by f ≡ marked f
     laid_out_lem = pick_yes _ _ _ (passes_of (kept f) (a, (b, (omega arith, (omega arith, (z, tt))))))
 
-    pub says_running : {s : Size} → f.marker ≡ running → s ≡ sized f.huge → Zoned.Running s ≡ zoned (header_says x)
+    pub says_running : {s : Size} → f.marker ≡ running → s ≡ sized f.huge → Ok (Zoned.Running s) ≡ zoned (header_says x)
     unfolding by_header
-    says_running m q = whole (ap Zoned.Running q ∙ sym (ap zoned (laid_out_lem ∙ pick_yes _ _ _ (eq-eqb _ _ m))))
+    says_running m q = whole (ap (λ s. Ok (Zoned.Running s)) q ∙ sym (ap zoned (laid_out_lem ∙ pick_yes _ _ _ (eq-eqb _ _ m))))
 
-    pub says_clean : {s : Size} → f.marker ≢ running → f.marker ≡ clean → s ≡ sized f.huge → Zoned.Clean s ≡ zoned (header_says x)
+    pub says_clean : {s : Size} → f.marker ≢ running → f.marker ≡ clean → s ≡ sized f.huge → Ok (Zoned.Clean s) ≡ zoned (header_says x)
     unfolding by_header
-    says_clean o m q = whole (ap Zoned.Clean q ∙ sym (ap zoned (laid_out_lem ∙ pick_no _ _ _ (ne_eqb _ _ o) ∙ pick_yes _ _ _ (eq-eqb _ _ m))))
+    says_clean o m q = whole (ap (λ s. Ok (Zoned.Clean s)) q ∙ sym (ap zoned (laid_out_lem ∙ pick_no _ _ _ (ne_eqb _ _ o) ∙ pick_yes _ _ _ (eq-eqb _ _ m))))

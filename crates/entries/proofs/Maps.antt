@@ -1,4 +1,5 @@
 -- What a step says of an entry, said in other words: the table afterwards is the same.
+use Rattle.std.specs.Prelude.{Option, Some, None}
 use mathlib.Core.Path.{◌≡◌, refl, ap, ◌∙◌}
 use mathlib.Core.Bool.{Bool, true, false}
 use mathlib.Core.List.{List}
@@ -44,9 +45,9 @@ module _ {A B : Type 0} (h : A → B) where
     unfolding on_tree by_tree
     tree_mapped f f' same = go (tree_says g t (get_or l t.0 0))
       where
-        go : (e : TreeEntry) → wrapped h (by_tree e (outcome damaged l) (λ r k. tree_turned g damaged t (f r k) l)) ≡ by_tree e (outcome (h damaged) l) (λ r k. tree_turned g (h damaged) t (f' r k) l)
-        go TreeEntry.Damaged = refl
-        go (TreeEntry.Counts r k) = turned_mapped (f r k) ∙ ap (λ m. tree_turned g (h damaged) t m l) (same r k)
+        go : (e : Option TreeEntry) → wrapped h (by_tree e (outcome damaged l) (λ r k. tree_turned g damaged t (f r k) l)) ≡ by_tree e (outcome (h damaged) l) (λ r k. tree_turned g (h damaged) t (f' r k) l)
+        go None = refl
+        go (Some e) = turned_mapped (f e.reserved e.count) ∙ ap (λ m. tree_turned g (h damaged) t m l) (same e.reserved e.count)
 
 -- two cases of what is said are the rule's two cases
 pub both_cases : {E A : Type 0} (h : A → Answer) (b : Bool) (x y : Turn E A) (x' y' : Made E) → mapped h x ≡ turn x' → mapped h y ≡ turn y' → mapped h (pick b x y) ≡ turn (pick b x' y')

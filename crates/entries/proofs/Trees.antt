@@ -1,29 +1,30 @@
 -- A tree's entry in code: split and joined, what it says by its fields, and the steps on it.
+use Rattle.std.specs.Prelude.{Option, Some, None, Result, Ok, Err, IsErrAnd}
 use mathlib.Core.Path.{◌≡◌, refl, sym, ap, ◌∙◌}
 use mathlib.Core.Logic.{◌≢◌}
 use mathlib.Core.Bool.{Bool, true, false, ◌&&◌, and-false}
 use mathlib.Core.List.{List}
-use Prim.Native.Nat.{ℕ, ◌+◌, ◌-◌, ◌*◌, ◌/◌, ◌%◌, ◌^◌, ◌≤◌, ◌<◌}
+use Prim.Native.Nat.{ℕ, ◌-◌, ◌*◌, ◌/◌, ◌%◌, ◌^◌, ◌≤◌, ◌<◌}
 use native.Mathlib.Omega.{arith}
 use lib.Dec.{leb, ltb, eqb}
 use lib.Bits.{bit_and, bit_or}
-use lib.ListN.{length, get_or, set}
+use lib.ListN.{length, set}
 use borrow.Author.Tests.{ltb-true, ltb-false, lt-ltb, le-ltb, lt-leb, le-leb, eq-eqb, ne_eqb}
 use Rattle.laws.specs.Fields.{width, split, join}
-use Rattle.laws.specs.Tables.{outcome}
+use Rattle.laws.specs.Tables.{Outcome, outcome}
 use Rattle.laws.proofs.Tests.{pick_elim, pick_yes, pick_no}
 use Rattle.laws.proofs.Fields.{joined, shifted}
 use Rattle.rules.specs.Numbers.{Shape, capacity}
-use Rattle.rules.specs.Entries.{field, tree_layout, tree_says, tree_word}
+use Rattle.rules.specs.Entries.{field, tree_layout, tallied, tree_says, tree_word}
 use Rattle.rules.specs.Places.{Class, allocated, partial, free, low_edge, high_edge, class_of, fits, pass_tree}
-use Rattle.rules.proofs.Readings.{flag_small}
-use Rattle.rules.proofs.Guards.{count_in_lem}
-use Rattle.entries.specs.Types.{Tree, TreeEntry, Pass, Size, Added, Reserved, TreeFields}
+use Rattle.rules.specs.Plan.{Tally}
+use Rattle.entries.specs.Types.{Tree, TreeEntry, Pass, Fault, Size, TreeFields}
 use Rattle.entries.specs.Sizes.{shape_of}
 use Rattle.entries.specs.Split.{tree_fields}
-use Rattle.entries.specs.Steps.{reserve_in, store_count_in}
+use Rattle.entries.specs.Turns.{Turn}
+use Rattle.entries.specs.Steps.{look_tree_in, count_in, tree_step, reserve_in, store_count_in}
 use Rattle.entries.proofs.Fields.{top_field, low_field}
-use Rattle.entries.proofs.Turns.{within_out, within_in, tree_damaged, tree_kept, tree_stored, same_tree}
+use Rattle.entries.proofs.Turns.{within_in, TreeRead, count_past, count_within, tree_refused, tree_kept, tree_stored}
 
 pub tree_split : (x : ℕ) → x < 2 ^ 16 → record { reserved = x / 2 ^ 15; count = bit_and x (2 ^ 15 - 1) } ≡ tree_fields x
 unfolding field split width
@@ -39,33 +40,13 @@ tree_join r k h l = joined 15 (shifted 16 r 15 (omega arith)) refl (omega arith)
 -- ---- what the fields say
 
 module _ (g : Shape) (t : Tree) (x : ℕ) {f : TreeFields} {n : ℕ} (e : f ≡ tree_fields x) (c : n ≡ capacity g t.0) where
-  pub says_damaged : n < f.count → TreeEntry.Damaged ≡ tree_says g t x
+  pub says_damaged : n < f.count → None ≡ tree_says g t x
   unfolding tree_says
   says_damaged h = sym (pick_no _ _ _ (lt-leb (field tree_layout 1 x) (capacity g t.0) (omega (arith, ap (λ (f : TreeFields). f.count) e))))
 
-  pub says_counts : f.count ≤ n → TreeEntry.Counts f.reserved f.count ≡ tree_says g t x
+  pub says_counts : f.count ≤ n → Some (tallied f.reserved f.count) ≡ tree_says g t x
   unfolding tree_says
   says_counts h = rw e (sym (pick_yes _ _ _ (le-leb (field tree_layout 1 x) (capacity g t.0) (omega (arith, ap (λ (f : TreeFields). f.count) e)))))
-
--- what an entry says is in range
-module _ (g : Shape) (t : Tree) (x : ℕ) {e : TreeEntry} {r k : ℕ} (s : e ≡ tree_says g t x) (d : e ≡ TreeEntry.Counts r k) where
-  pub count_fits : k ≤ capacity g t.0
-  count_fits = count_in_lem g t x r k (sym s ∙ d)
-
-  pub flag_bit : r < 2
-  unfolding tree_says
-  flag_bit = pick_elim (λ e. e ≡ TreeEntry.Counts r k → r < 2) (leb (field tree_layout 1 x) (capacity g t.0))
-      (λ b e. let a : field tree_layout 0 x ≡ r = cc in omega (arith, flag_small x))
-      (λ b e. let z : ◌≡◌ {A = ℕ} 0 1 = cc in absurd (omega arith)) (sym s ∙ d)
-
--- ---- the hand with the count, against the capacity
-
-module _ {n c : ℕ} (k h : ℕ) (e : n ≡ c) where
-  pub no_room_lem : n - k < h → leb (h + k) c ≡ false
-  no_room_lem l = lt-leb (h + k) c (omega arith)
-
-  pub has_room : k ≤ c → h ≤ n - k → leb (h + k) c ≡ true
-  has_room f l = le-leb (h + k) c (omega arith)
 
 -- ---- the classes that a pass takes
 
@@ -96,40 +77,40 @@ module _ (k : ℕ) {p : Pass} where
 
 -- ---- a tree reserved: r clear, a class that fits, a count of at least s
 
+-- a step at a tree that goes by two names
+same_tree : {A : Type 0} (m : Size) (f : ℕ → ℕ → Turn Tally (Result A Fault)) (l : List ℕ) {t u : Tree} {o : Outcome (Result A Fault)} → t ≡ u → o ≡ tree_step m t f l → o ≡ tree_step m u f l
+same_tree m f l e q = q ∙ ap (λ t. tree_step m t f l) e
+
 module _ (m : Size) (p : Pass) (s : ℕ) (l : List ℕ) {t : Tree} (a : t ≡ pass_tree p) where
-  pub reserve_out : length l ≤ t.0 → outcome Reserved.NoTree l ≡ reserve_in m p s l
-  reserve_out h = same_tree _ _ _ _ l a (within_out _ _ l _ h)
+  pub reserve_refused : {r : Result (Option ℕ) Fault} {x : Fault} → IsErrAnd r (λ y. y ≡ x) → Err x ≡ look_tree_in m t l → outcome r l ≡ reserve_in m p s l
+  reserve_refused u q = same_tree _ _ l a (tree_refused _ _ _ _ u q)
 
-  module _ (h : t.0 < length l) {e : TreeEntry} (d : e ≡ tree_says (shape_of m) t (get_or l t.0 0)) where
-    pub reserve_damaged : e ≡ TreeEntry.Damaged → outcome Reserved.Damaged l ≡ reserve_in m p s l
-    reserve_damaged b = same_tree _ _ _ _ l a (tree_damaged _ _ _ t _ l h d b)
+  module _ {e : TreeEntry} (d : TreeRead m t l e) where
+    abbrev reserves : Bool
+    reserves = eqb e.reserved 0 && (fits p (class_of e.count) && leb s e.count)
 
-    module _ {r k : ℕ} (b : e ≡ TreeEntry.Counts r k) where
-      abbrev reserves : Bool
-      reserves = eqb r 0 && (fits p (class_of k) && leb s k)
+    passed : reserves ≡ false → outcome (Ok None) l ≡ reserve_in m p s l
+    passed q = same_tree _ _ l a (tree_kept _ _ _ _ d (pick_no reserves _ _ q))
 
-      passed : reserves ≡ false → outcome Reserved.Passed l ≡ reserve_in m p s l
-      passed q = same_tree _ _ _ _ l a (tree_kept _ _ _ t _ l h d b (pick_no reserves _ _ q))
+    pub reserve_set : e.reserved ≢ 0 → outcome (Ok None) l ≡ reserve_in m p s l
+    reserve_set n = passed (rw (ne_eqb e.reserved 0 n) refl)
 
-      pub reserve_set : r ≢ 0 → outcome Reserved.Passed l ≡ reserve_in m p s l
-      reserve_set n = passed (rw (ne_eqb r 0 n) refl)
+    pub reserve_few : e.count < s → outcome (Ok None) l ≡ reserve_in m p s l
+    reserve_few n = passed (rw (lt-leb s e.count n, and-false (fits p (class_of e.count))) (and-false (eqb e.reserved 0)))
 
-      pub reserve_few : k < s → outcome Reserved.Passed l ≡ reserve_in m p s l
-      reserve_few n = passed (rw (lt-leb s k n, and-false (fits p (class_of k))) (and-false (eqb r 0)))
+    pub reserve_other : {f : Bool} → f ≡ fits p (class_of e.count) → f ≡ false → outcome (Ok None) l ≡ reserve_in m p s l
+    reserve_other q n = passed (rw (sym q ∙ n) (and-false (eqb e.reserved 0)))
 
-      pub reserve_other : {f : Bool} → f ≡ fits p (class_of k) → f ≡ false → outcome Reserved.Passed l ≡ reserve_in m p s l
-      reserve_other q n = passed (rw (sym q ∙ n) (and-false (eqb r 0)))
-
-      pub reserve_taken : {f : Bool} {v : ℕ} → r ≡ 0 → s ≤ k → f ≡ fits p (class_of k) → f ≡ true → v ≡ tree_word 1 0 → outcome (Reserved.Count k) (set l t.0 v) ≡ reserve_in m p s l
-      reserve_taken z n q y w = same_tree _ _ _ _ l a (tree_stored _ _ _ t _ l h d b (pick_yes reserves _ _ (rw (eq-eqb r 0 z, sym q ∙ y) (le-leb s k n))) (omega arith) w)
+    pub reserve_taken : {f : Bool} {v : ℕ} → e.reserved ≡ 0 → s ≤ e.count → f ≡ fits p (class_of e.count) → f ≡ true → v ≡ tree_word 1 0 → outcome (Ok (Some e.count)) (set l t.0 v) ≡ reserve_in m p s l
+    reserve_taken z n q y w = same_tree _ _ l a (tree_stored _ _ _ _ d (pick_yes reserves _ _ (rw (eq-eqb e.reserved 0 z, sym q ∙ y) (le-leb s e.count n))) (omega arith) w)
 
 -- ---- a count stored whatever the entry was
 
-module _ (m : Size) (t : Tree) (k : ℕ) (l : List ℕ) (h : t.0 < length l) {n : ℕ} (e : n ≡ capacity (shape_of m) t.0) where
-  pub count_past : n < k → outcome Added.Damaged l ≡ store_count_in m t k l
+module _ (m : Size) (t : Tree) (k : ℕ) (l : List ℕ) (h : t.0 < length l) where
+  pub store_past : {r : Result Unit Fault} {x : Fault} → IsErrAnd r (λ y. y ≡ x) → Err x ≡ count_in m t k → outcome r l ≡ store_count_in m t k l
   unfolding store_count_in
-  count_past p = within_in _ _ l h (sym (pick_no _ _ _ (lt-leb k (capacity (shape_of m) t.0) (omega arith))))
+  store_past u q = let p = count_past m t k u q in within_in _ _ l h (rw p.0 (sym (pick_no _ _ _ (lt-leb k (capacity (shape_of m) t.0) p.1))))
 
-  pub count_stored : {v : ℕ} → k ≤ n → v ≡ tree_word 0 k → outcome Added.Added (set l t.0 v) ≡ store_count_in m t k l
+  pub store_within : {n v : ℕ} → Ok n ≡ count_in m t k → v ≡ tree_word 0 n → outcome (Ok tt) (set l t.0 v) ≡ store_count_in m t k l
   unfolding store_count_in
-  count_stored p w = within_in _ _ l h (rw w (sym (pick_yes _ _ _ (le-leb k (capacity (shape_of m) t.0) (omega arith)))))
+  store_within q w = let p = count_within m t k q in within_in _ _ l h (rw (w, p.0) (sym (pick_yes _ _ _ (le-leb k (capacity (shape_of m) t.0) p.1))))

@@ -1,12 +1,12 @@
 -- A step on one entry: what it says, and the table afterwards. An entry read, or one to be stored, that breaks its layout is damaged.
-use Rattle.std.specs.Prelude.{List, ℕ, leb, ltb, length, get_or, set}
+use Rattle.std.specs.Prelude.{List, ℕ, leb, ltb, length, get_or, set, Option, Result, Err, ok_or}
 use Rattle.laws.specs.Tests.{pick}
 use Rattle.laws.specs.Tables.{Outcome, outcome}
 use Rattle.rules.specs.Numbers.{Shape, capacity}
 use Rattle.rules.specs.Entries.{tree_says, tree_word}
 use Rattle.rules.specs.Lower.{Change, keep, become}
 use Rattle.rules.specs.Plan.{Made, Tally, by_change, by_tree}
-use Rattle.entries.specs.Types.{Tree, Answer}
+use Rattle.entries.specs.Types.{Tree, Fault, Answer}
 
 pub record Turn (E A : Type 0) : Type 0 where
   pub change : Change E
@@ -34,3 +34,7 @@ module _ {A : Type 0} (g : Shape) (damaged : A) where
 -- where the table has the entry
 unfoldable pub within : {A : Type 0} → A → ℕ → List ℕ → Outcome A → Outcome A
 within none i l o = pick (ltb i (length l)) o (outcome none l)
+
+-- what entry i says; one that the table has not, or that is malformed, is a fault
+abbrev pub entry_read : {E : Type 0} → (ℕ → Option E) → ℕ → List ℕ → Result E Fault
+entry_read says i l = pick (ltb i (length l)) (ok_or (says (get_or l i 0)) Fault.Damaged) (Err Fault.NoEntry)

@@ -3,13 +3,9 @@ pub use Rattle.rules.specs.declared.Tree.{Tree}
 pub use Rattle.rules.specs.declared.Header.{Header}
 pub use Rattle.rules.specs.declared.TreeEntry.{TreeEntry}
 pub use Rattle.rules.specs.declared.Pass.{Pass}
+pub use Rattle.rules.specs.declared.Fault.{Fault}
 pub use Rattle.rules.specs.declared.Answer.{Answer}
 pub use Rattle.entries.specs.declared.Size.{Size}
 pub use Rattle.entries.specs.declared.Zoned.{Zoned}
-pub use Rattle.entries.specs.declared.Stored.{Stored}
-pub use Rattle.entries.specs.declared.Counted.{Counted}
-pub use Rattle.entries.specs.declared.Added.{Added}
-pub use Rattle.entries.specs.declared.Reserved.{Reserved}
-pub use Rattle.entries.specs.declared.TreeLook.{TreeLook}
 pub use Rattle.entries.specs.declared.HeaderFields.{HeaderFields}
 pub use Rattle.entries.specs.declared.TreeFields.{TreeFields}

@@ -2,7 +2,7 @@
 // A function takes a slice of any length and any numbers. What is wrong it answers, and then it stores nothing.
 #![tactic(auto)]
 
-ghost use Rattle.std.specs.Prelude.{◌≡◌, [], ◌∷◌, ◌+◌, ◌*◌, ◌^◌, ◌≤◌, ◌<◌};
+ghost use Rattle.std.specs.Prelude.{◌≡◌, [], ◌∷◌, ◌+◌, ◌*◌, ◌^◌, ◌≤◌, ◌<◌, Ok, Err};
 ghost use Rattle.laws.specs.Tests.{passes};
 ghost use Rattle.laws.specs.Tables.{outcome};
 ghost use Rattle.laws.specs.Fields.{join};
@@ -11,9 +11,9 @@ ghost use Rattle.rules.specs.Entries.{header_says, header_word, running, clean, 
 ghost use Rattle.rules.specs.Places.{fits, class_of, pass_tree};
 ghost use Rattle.entries.specs.Sizes.{huge_of, shape_of, by_header, sized, zoned_in, lengths_of};
 ghost use Rattle.entries.specs.Split.{header_fields, tree_fields};
-ghost use Rattle.entries.specs.Steps.{take_count_in, add_count_in, unreserve_in, reserve_in, take_with_in, store_count_in, look_tree_in, stored_in};
+ghost use Rattle.entries.specs.Steps.{take_count_in, add_count_in, unreserve_in, reserve_in, take_with_in, store_count_in, look_tree_in, count_in, stored_in};
 
-use rules::{Header, Pass, Tree, TreeEntry};
+use rules::{Answer, Fault, Pass, Tree, TreeEntry};
 
 // Frames a child, words a child, children a tree; the most CPUs.
 const CHILD_FRAMES: u16 = 512;
@@ -124,8 +124,6 @@ fn join_header(marker: u64, size: Size) -> u64
 
 #[derive(Clone, Copy)]
 pub enum Zoned {
-    NoHeader,
-    NotAZone,
     Running(Size),
     Clean(Size),
 }
@@ -137,83 +135,76 @@ fn sized(huge: u64) -> Size
     Size((huge - 1) as u16)
 }
 
-fn header_says(word: u64) -> Zoned
-    ensures { result ≡ by_header (header_says word) Zoned.NotAZone (λ n. Zoned.Running (sized n)) (λ n. Zoned.Clean (sized n)) }
+fn header_says(word: u64) -> Result<Zoned, Answer>
+    ensures { result ≡ by_header (header_says word) (Err Answer.NotAZone) (λ n. Ok (Zoned.Running (sized n))) (λ n. Ok (Zoned.Clean (sized n))) }
 {
     let h = split_header(word);
     if h.identifier != IDENTIFIER {
-        return Zoned::NotAZone;
+        return Err(Answer::NotAZone);
     }
     if h.format != FORMAT {
-        return Zoned::NotAZone;
+        return Err(Answer::NotAZone);
     }
     if h.huge == 0 {
-        return Zoned::NotAZone;
+        return Err(Answer::NotAZone);
     }
     if MOST_HUGE < h.huge {
-        return Zoned::NotAZone;
+        return Err(Answer::NotAZone);
     }
     if h.zero != 0 {
-        return Zoned::NotAZone;
+        return Err(Answer::NotAZone);
     }
     if h.marker == RUNNING {
-        return Zoned::Running(sized(h.huge));
+        return Ok(Zoned::Running(sized(h.huge)));
     }
     if h.marker == CLEAN {
-        return Zoned::Clean(sized(h.huge));
+        return Ok(Zoned::Clean(sized(h.huge)));
     }
-    Zoned::NotAZone
+    Err(Answer::NotAZone)
 }
 
 // What a header slice says: its length first, then its one entry.
-pub fn zone_says(header: &[u64]) -> Zoned
+pub fn zone_says(header: &[u64]) -> Result<Zoned, Answer>
     ensures { result ≡ zoned_in header.now }
 {
     if header.len() != 1 {
-        return Zoned::NoHeader;
+        return Err(Answer::BadBuffers);
     }
     header_says(header[0])
 }
 
-// An entry that is stored whatever stood there.
-#[derive(Clone, Copy)]
-pub enum Stored {
-    Stored,
-    NoEntry,
-}
-
 // The header while create is under way: no zone.
-pub fn store_unborn(header: &mut [u64]) -> Stored
+pub fn store_unborn(header: &mut [u64]) -> Result<(), Fault>
     ensures { outcome result header.new ≡ stored_in 0 0 header.old }
 {
     if header.len() == 0 {
-        return Stored::NoEntry;
+        return Err(Fault::NoEntry);
     }
     // create: the header first
     header[0] = 0;
-    Stored::Stored
+    Ok(())
 }
 
-pub fn store_running(header: &mut [u64], size: Size) -> Stored
+pub fn store_running(header: &mut [u64], size: Size) -> Result<(), Fault>
     ensures { outcome result header.new ≡ stored_in 0 (header_word running (huge_of size)) header.old }
 {
     if header.len() == 0 {
-        return Stored::NoEntry;
+        return Err(Fault::NoEntry);
     }
     // create: the header last; open: the header first
     header[0] = join_header(RUNNING, size);
-    Stored::Stored
+    Ok(())
 }
 
-pub fn store_clean(header: &mut [u64], size: Size) -> Stored
+pub fn store_clean(header: &mut [u64], size: Size) -> Result<(), Fault>
     ensures { outcome result header.new ≡ stored_in 0 (header_word clean (huge_of size)) header.old }
 {
     if header.len() == 0 {
-        return Stored::NoEntry;
+        return Err(Fault::NoEntry);
     }
     // close: the header
     header[0] = join_header(CLEAN, size);
-    Stored::Stored
+    Ok(())
 }
 
 // ---- a tree's entry: reserved r (1), count (15)
@@ -240,107 +231,73 @@ fn join_tree(reserved: u16, count: u16) -> u16
     reserved << 15 | count
 }
 
-fn tree_says(size: Size, tree: Tree, word: u16) -> TreeEntry
+fn tree_says(size: Size, tree: Tree, word: u16) -> Option<TreeEntry>
     ensures { result ≡ tree_says (shape_of size) tree word }
 {
     let f = split_tree(word);
     if capacity_of(size, tree) < f.count {
-        return TreeEntry::Damaged;
+        return None;
     }
-    TreeEntry::Counts {
+    Some(TreeEntry {
         reserved: f.reserved,
         count: f.count,
+    })
+}
+
+// What a tree's entry says.
+pub fn look_tree(trees: &[u16], size: Size, tree: Tree) -> Result<TreeEntry, Fault>
+    ensures { result ≡ look_tree_in size tree trees.now }
+{
+    let at = tree.0 as usize;
+    if trees.len() <= at {
+        return Err(Fault::NoEntry);
     }
+    tree_says(size, tree, trees[at]).ok_or(Fault::Damaged)
 }
 
-// A count that was taken.
-#[derive(Clone, Copy)]
-pub enum Counted {
-    Count(u16),
-    Damaged,
-    NoTree,
-}
-
-// A count that was raised or stored.
-#[derive(Clone, Copy)]
-pub enum Added {
-    Added,
-    Damaged,
-    NoTree,
-}
-
-#[derive(Clone, Copy)]
-pub enum Reserved {
-    Count(u16),
-    Passed,
-    Damaged,
-    NoTree,
-}
-
-#[derive(Clone, Copy)]
-pub enum TreeLook {
-    Entry(TreeEntry),
-    NoTree,
+// A count that the tree can have. One above the capacity is damaged.
+pub fn count_in(size: Size, tree: Tree, count: u32) -> Result<u16, Fault>
+    ensures { result ≡ count_in size tree count }
+{
+    if (capacity_of(size, tree) as u32) < count {
+        return Err(Fault::Damaged);
+    }
+    Ok(count as u16)
 }
 
 // Rule 1: the count is taken, leaving 0; r stays.
-pub fn take_count(trees: &mut [u16], size: Size, tree: Tree) -> Counted
+pub fn take_count(trees: &mut [u16], size: Size, tree: Tree) -> Result<u16, Fault>
     ensures { outcome result trees.new ≡ take_count_in size tree trees.old }
 {
     let at = tree.0 as usize;
-    if trees.len() <= at {
-        return Counted::NoTree;
-    }
-    match tree_says(size, tree, trees[at]) {
-        TreeEntry::Damaged => Counted::Damaged,
-        TreeEntry::Counts { reserved, count } => {
-            // rule 1: the tree's count into hand
-            trees[at] = join_tree(reserved, 0);
-            Counted::Count(count)
-        }
-    }
+    let TreeEntry { reserved, count } = look_tree(trees, size, tree)?;
+    // rule 1: the tree's count into hand
+    trees[at] = join_tree(reserved, 0);
+    Ok(count)
 }
 
 // A count rises by `frames`; r stays. A sum above the capacity is damaged.
-pub fn add_count(trees: &mut [u16], size: Size, tree: Tree, frames: u16) -> Added
+pub fn add_count(trees: &mut [u16], size: Size, tree: Tree, frames: u16) -> Result<(), Fault>
     ensures { outcome result trees.new ≡ add_count_in size tree frames trees.old }
 {
     let at = tree.0 as usize;
-    if trees.len() <= at {
-        return Added::NoTree;
-    }
-    match tree_says(size, tree, trees[at]) {
-        TreeEntry::Damaged => Added::Damaged,
-        TreeEntry::Counts { reserved, count } => {
-            if capacity_of(size, tree) - count < frames {
-                return Added::Damaged;
-            }
-            // rules 1 and 7, giving back: the tree's count rises, r stays
-            trees[at] = join_tree(reserved, count + frames);
-            Added::Added
-        }
-    }
+    let TreeEntry { reserved, count } = look_tree(trees, size, tree)?;
+    let sum = count_in(size, tree, count as u32 + frames as u32)?;
+    // rules 1 and 7, giving back: the tree's count rises, r stays
+    trees[at] = join_tree(reserved, sum);
+    Ok(())
 }
 
 // Rule 2: a count rises by `frames`, and r is cleared.
-pub fn unreserve(trees: &mut [u16], size: Size, tree: Tree, frames: u16) -> Added
+pub fn unreserve(trees: &mut [u16], size: Size, tree: Tree, frames: u16) -> Result<(), Fault>
     ensures { outcome result trees.new ≡ unreserve_in size tree frames trees.old }
 {
     let at = tree.0 as usize;
-    if trees.len() <= at {
-        return Added::NoTree;
-    }
-    match tree_says(size, tree, trees[at]) {
-        TreeEntry::Damaged => Added::Damaged,
-        TreeEntry::Counts { reserved: _, count } => {
-            if capacity_of(size, tree) - count < frames {
-                return Added::Damaged;
-            }
-            // rule 2: the hand to the tree's count, r clear
-            trees[at] = join_tree(0, count + frames);
-            Added::Added
-        }
-    }
+    let TreeEntry { reserved: _, count } = look_tree(trees, size, tree)?;
+    let sum = count_in(size, tree, count as u32 + frames as u32)?;
+    // rule 2: the hand to the tree's count, r clear
+    trees[at] = join_tree(0, sum);
+    Ok(())
 }
 
 // Classes, by count: allocated below 2,048; free above 14,336; partial between.
@@ -377,77 +334,48 @@ pub fn pass_tree(pass: Pass) -> Tree
 }
 
 // Rule 3: with r clear, a class that fits and a count of at least `frames`, r is set and the count taken.
-pub fn reserve(trees: &mut [u16], size: Size, pass: Pass, frames: u16) -> Reserved
+pub fn reserve(trees: &mut [u16], size: Size, pass: Pass, frames: u16) -> Result<Option<u16>, Fault>
     ensures { outcome result trees.new ≡ reserve_in size pass frames trees.old }
 {
     let tree = pass_tree(pass);
     let at = tree.0 as usize;
-    if trees.len() <= at {
-        return Reserved::NoTree;
+    let TreeEntry { reserved, count } = look_tree(trees, size, tree)?;
+    if reserved != 0 {
+        return Ok(None);
     }
-    match tree_says(size, tree, trees[at]) {
-        TreeEntry::Damaged => Reserved::Damaged,
-        TreeEntry::Counts { reserved, count } => {
-            if reserved != 0 {
-                return Reserved::Passed;
-            }
-            if count < frames {
-                return Reserved::Passed;
-            }
-            if fits_class(pass, count) {
-                // rule 3: r is set, the tree's count into hand
-                trees[at] = join_tree(1, 0);
-                return Reserved::Count(count);
-            }
-            Reserved::Passed
-        }
+    if count < frames {
+        return Ok(None);
     }
+    if fits_class(pass, count) {
+        // rule 3: r is set, the tree's count into hand
+        trees[at] = join_tree(1, 0);
+        return Ok(Some(count));
+    }
+    Ok(None)
 }
 
 // Rule 4: the hand with the tree's count, which leaves 0; r stays. A sum above the capacity is damaged.
-pub fn take_with(trees: &mut [u16], size: Size, tree: Tree, hand: u16) -> Counted
+pub fn take_with(trees: &mut [u16], size: Size, tree: Tree, hand: u16) -> Result<u16, Fault>
     ensures { outcome result trees.new ≡ take_with_in size tree hand trees.old }
 {
     let at = tree.0 as usize;
-    if trees.len() <= at {
-        return Counted::NoTree;
-    }
-    match tree_says(size, tree, trees[at]) {
-        TreeEntry::Damaged => Counted::Damaged,
-        TreeEntry::Counts { reserved, count } => {
-            if capacity_of(size, tree) - count < hand {
-                return Counted::Damaged;
-            }
-            // rule 4: the tree's count into hand
-            trees[at] = join_tree(reserved, 0);
-            Counted::Count(hand + count)
-        }
-    }
+    let TreeEntry { reserved, count } = look_tree(trees, size, tree)?;
+    let sum = count_in(size, tree, count as u32 + hand as u32)?;
+    // rule 4: the tree's count into hand
+    trees[at] = join_tree(reserved, 0);
+    Ok(sum)
 }
 
 // Create and open: a count with r clear, whatever stood there. A count above the capacity is damaged.
-pub fn store_count(trees: &mut [u16], size: Size, tree: Tree, count: u32) -> Added
+pub fn store_count(trees: &mut [u16], size: Size, tree: Tree, count: u32) -> Result<(), Fault>
     ensures { outcome result trees.new ≡ store_count_in size tree count trees.old }
 {
     let at = tree.0 as usize;
     if trees.len() <= at {
-        return Added::NoTree;
+        return Err(Fault::NoEntry);
     }
-    if (capacity_of(size, tree) as u32) < count {
-        return Added::Damaged;
-    }
+    let count = count_in(size, tree, count)?;
     // create and open: a tree
-    trees[at] = join_tree(0, count as u16);
-    Added::Added
-}
-
-// What a tree's entry says.
-pub fn look_tree(trees: &[u16], size: Size, tree: Tree) -> TreeLook
-    ensures { result ≡ look_tree_in size tree trees.now }
-{
-    let at = tree.0 as usize;
-    if trees.len() <= at {
-        return TreeLook::NoTree;
-    }
-    TreeLook::Entry(tree_says(size, tree, trees[at]))
+    trees[at] = join_tree(0, count);
+    Ok(())
 }

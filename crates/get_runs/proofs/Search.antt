@@ -13,7 +13,7 @@ use Rattle.rules.specs.declared.Run.{Run}
 use Rattle.rules.specs.Numbers.{child_words, Shape as Rules, children_of}
 use Rattle.rules.specs.Ranges.{place_in, taking_in}
 use Rattle.rules.specs.Zone.{Zone}
-use Rattle.rules.specs.Answers.{number}
+use Rattle.std.specs.Prelude.{Option, Some, None, Result, Ok, Err}
 use Rattle.rules.specs.Plan.{plain, takes}
 use Rattle.rules.specs.Blocks.{run_size, frame_at}
 use Rattle.rules.specs.Lower.{claim, take_huge}
@@ -25,31 +25,31 @@ use Rattle.places.proofs.Ranges.{children_same}
 use Rattle.calls.specs.Results.{zone, went_to, Opened}
 use Rattle.child_stages.specs.Tables.{lent_children, in_children}
 use Rattle.child_stages.specs.Answers.{claimed_answer}
-use Rattle.child_stages.proofs.Rules.{next_round, next_on, claimed_made}
+use Rattle.child_stages.proofs.Rules.{claim_same, nine_same, next_round, next_on, claimed_made}
 use Rattle.lower.specs.Steps.{claim_in, take_huge_in, take_run_in}
 use Rattle.word_stages.specs.Tables.{lent_words}
 use Rattle.word_stages.specs.Answers.{word_answer}
 use Rattle.word_stages.proofs.Rules.{word_made}
-use Rattle.get_runs.specs.Types.{Frame, Tree, Order, Block, Place, Taking, Record, Answer, Claimed, Taken, Bit, Took, Shape, Way}
+use Rattle.get_runs.specs.Types.{Frame, Tree, Order, Block, Place, Taking, Record, Answer, Took, Fault, Shape, Way}
 use Rattle.get_runs.specs.Claims.{no_child, claims_in, claimed}
 use Rattle.upper.proofs.Runs.{Makes, still, goes}
-use Rattle.get_runs.proofs.Steps.{child_step, word_step}
+use Rattle.get_runs.proofs.Steps.{fault_refused, child_step, word_step}
 
 -- ---- a claim on a child of the own tree
 
-module _ (g : Rules) (t : Tree) (k : ℕ) (l : List ℕ) {o : Order} {x : Outcome Claimed} where
+module _ (g : Rules) (t : Tree) (k : ℕ) (l : List ℕ) {o : Order} {x : Outcome (Result Took Fault)} where
   pub claims_run : {r : Run} {n : ℕ} → o ≡ Order.Run r → n ≡ run_size r → x ≡ lent_children g t no_child (λ l. claim_in n l k) l → x ≡ lent_children g t no_child (λ l. claims_in o l k) l
   claims_run d e q = rw (d, ← e) q
 
   pub claims_nine : o ≡ Order.Nine → x ≡ lent_children g t no_child (λ l. take_huge_in l k) l → x ≡ lent_children g t no_child (λ l. claims_in o l k) l
   claims_nine d q = rw d q
 
-module _ (g : Rules) (cpu : ℕ) (t : Tree) (i k : ℕ) (l : List ℕ) {s : Claimed} {m : List ℕ} {a : Answer} where
+module _ (g : Rules) (cpu : ℕ) (t : Tree) (i k : ℕ) (l : List ℕ) {s : Result Took Fault} {m : List ℕ} {a : Answer} where
   claim_made : (o : Order) → outcome s m ≡ lent_children g t no_child (λ l. claims_in o l k) l → a ≡ claimed_answer (get g cpu (claimed g o t i k)) (next_child g cpu o (Place.Own t) i k) s
       → outcome a m ≡ in_children g (take g cpu (Taking.Child o (Place.Own t) i k)) l
   unfolding take in_children search_child
-  claim_made (Order.Run r) d e = claimed_made _ _ _ l (claim (run_size r)) _ _ plain d e
-  claim_made Order.Nine d e = claimed_made _ _ _ l take_huge _ _ (takes _) d e
+  claim_made (Order.Run r) d e = claimed_made _ _ _ l (claim (run_size r)) _ _ plain (claim_same _ _ _ (run_size r)) d e
+  claim_made Order.Nine d e = claimed_made _ _ _ l take_huge _ _ (takes _) (nine_same _ _ _) d e
 
 -- ---- the words of a child
 
@@ -77,27 +77,27 @@ module _ (s : Shape) (cpu : ℕ) (v : Run) (t : Tree) (i k j : ℕ) where
   word_in h l = (h.0, (h.1.0, (h.1.1.0, (l, tt))))
 
   -- a full word: the next
-  word_full : word_answer (shape_of s) cpu v (Place.Own t) i k j (Taken.Word Bit.Full) ≡ get (shape_of s) cpu (word_at v t i k (j + 1))
+  word_full : word_answer (shape_of s) cpu v (Place.Own t) i k j (Ok None) ≡ get (shape_of s) cpu (word_at v t i k (j + 1))
   word_full = rw (add-one j) (pick_elim (λ x. x ≡ get (shape_of s) cpu (word_at v t i k (suc j))) (ltb (suc j) 8)
       (λ b. sym (ap (get (shape_of s) cpu) (pick_yes _ _ _ b))) (λ b. sym (ap (get (shape_of s) cpu) (pick_no _ _ _ b))))
 
   -- what the lower level says of the word is the step
   module _ {h w c ts p : List ℕ} (o : Opened s cpu h w c ts p) (b : Passes (taking_in (shape_of s) cpu (Taking.Child (Order.Run v) (Place.Own t) i k))) (fuel n : ℕ) (l : n < fuel) (d : j < 8)
-      {x : Taken} {m : List ℕ} (e : outcome x m ≡ lent_words (shape_of s) t Taken.NoChild (λ l. take_run_in (run_size v) l k j) w) where
+      {x : Result (Option ℕ) Fault} {m : List ℕ} (e : outcome x m ≡ lent_words (shape_of s) t (Err Fault.NoChild) (λ l. take_run_in (run_size v) l k j) w) where
     word_told : Makes (zone h w c ts p) (Record.Get cpu (word_at v t i k j)) (word_answer (shape_of s) cpu v (Place.Own t) i k j x) (zone h m c ts p)
     word_told = rw (word_at_lem v t i k j d) (word_step o v (Place.Own t) i k j (word_in b d) (word_made (shape_of s) cpu v (Place.Own t) i k j w e refl))
 
     abbrev Before : Ran
     Before = follow step (fuel - n) n (get (shape_of s) cpu (word_at v t i k j)) (zone h w c ts p)
 
-    pub word_next : {u : Bit} → x ≡ Taken.Word u → u ≡ Bit.Full → follow step (fuel - (n + 1)) (n + 1) (get (shape_of s) cpu (word_at v t i k (j + 1))) (zone h m c ts p) ≡ Before
-    word_next q r = goes fuel n _ _ word_told l (ap (word_answer (shape_of s) cpu v (Place.Own t) i k j) (q ∙ ap Taken.Word r) ∙ word_full)
+    pub word_next : {u : Option ℕ} → x ≡ Ok u → u ≡ None → follow step (fuel - (n + 1)) (n + 1) (get (shape_of s) cpu (word_at v t i k (j + 1))) (zone h m c ts p) ≡ Before
+    word_next q r = goes fuel n _ _ word_told l (ap (word_answer (shape_of s) cpu v (Place.Own t) i k j) (q ∙ ap Ok r) ∙ word_full)
 
-    pub word_found : {u : Bit} (a : ℕ) {f : Frame} {y : Ran} → x ≡ Taken.Word u → u ≡ Bit.At a → f ≡ frame_at (shape_of s) t k j a → y ≡ follow step (fuel - (n + 1)) (n + 1) (get (shape_of s) cpu (Taking.Last (Block.Run v f))) (zone h m c ts p) → y ≡ Before
-    word_found a q r g f = f ∙ goes fuel n _ _ word_told l (ap (word_answer (shape_of s) cpu v (Place.Own t) i k j) (q ∙ ap Taken.Word r) ∙ ap (λ f. get (shape_of s) cpu (Taking.Last (Block.Run v f))) (sym g))
+    pub word_found : {u : Option ℕ} (a : ℕ) {f : Frame} {y : Ran} → x ≡ Ok u → u ≡ Some a → f ≡ frame_at (shape_of s) t k j a → y ≡ follow step (fuel - (n + 1)) (n + 1) (get (shape_of s) cpu (Taking.Last (Block.Run v f))) (zone h m c ts p) → y ≡ Before
+    word_found a q r g f = f ∙ goes fuel n _ _ word_told l (ap (word_answer (shape_of s) cpu v (Place.Own t) i k j) (q ∙ ap Ok r) ∙ ap (λ f. get (shape_of s) cpu (Taking.Last (Block.Run v f))) (sym g))
 
-    pub word_stands : {x' : Taken} → x ≡ x' → 2 ≤ number (word_answer (shape_of s) cpu v (Place.Own t) i k j x') → went_to step fuel (Way.Goes (Record.Get cpu (Taking.Word v (Place.Own t) i k j)) n) (zone h m c ts p) ≡ Before
-    word_stands q r = ap (λ x. went_to step fuel (Way.Goes (Record.Get cpu x) n) (zone h m c ts p)) (sym (word_at_lem v t i k j d)) ∙ still fuel n _ _ word_told (rw q r)
+    pub word_stands : {u : Fault} → x ≡ Err u → went_to step fuel (Way.Goes (Record.Get cpu (Taking.Word v (Place.Own t) i k j)) n) (zone h m c ts p) ≡ Before
+    word_stands {u} q = ap (λ x. went_to step fuel (Way.Goes (Record.Get cpu x) n) (zone h m c ts p)) (sym (word_at_lem v t i k j d)) ∙ still fuel n _ _ word_told (rw q (fault_refused u))
 
 -- ---- the children of the own tree
 
@@ -134,8 +134,8 @@ module _ (s : Shape) (cpu : ℕ) (q : Order) (t : Tree) (i k : ℕ) (b : Passes 
     turned_on r z = record { next = next_on (shape_of s) cpu q (Place.Own t) i k (e ∙ children_same s t.0) r ∙ ap child_at (sym z); inside = let l = b.1.1.0 in let m = e ∙ children_same s t.0 in let u : k + 1 < n = omega arith in (b.0, (b.1.0, (omega arith, tt))) }
 
   -- what the lower level says of the child is the step
-  module _ {h w c ts p : List ℕ} (o : Opened s cpu h w c ts p) (fuel n : ℕ) (l : n < fuel) {x : Claimed} {m : List ℕ} (e : outcome x m ≡ lent_children (shape_of s) t no_child (λ l. claims_in q l k) c) where
-    abbrev answer : Claimed → Answer
+  module _ {h w c ts p : List ℕ} (o : Opened s cpu h w c ts p) (fuel n : ℕ) (l : n < fuel) {x : Result Took Fault} {m : List ℕ} (e : outcome x m ≡ lent_children (shape_of s) t no_child (λ l. claims_in q l k) c) where
+    abbrev answer : Result Took Fault → Answer
     answer = claimed_answer (get (shape_of s) cpu (claimed (shape_of s) q t i k)) (next_child (shape_of s) cpu q (Place.Own t) i k)
 
     child_told : Makes (zone h w c ts p) (Record.Get cpu (Taking.Child q (Place.Own t) i k)) (answer x) (zone h w m ts p)
@@ -144,13 +144,13 @@ module _ (s : Shape) (cpu : ℕ) (q : Order) (t : Tree) (i k : ℕ) (b : Passes 
     abbrev Search : Ran
     Search = follow step (fuel - n) n (get (shape_of s) cpu (Taking.Child q (Place.Own t) i k)) (zone h w c ts p)
 
-    pub child_taken : {y : Ran} → x ≡ Claimed.Entry Took.Taken → y ≡ follow step (fuel - (n + 1)) (n + 1) (get (shape_of s) cpu (claimed (shape_of s) q t i k)) (zone h w m ts p) → y ≡ Search
+    pub child_taken : {y : Ran} → x ≡ Ok Took.Taken → y ≡ follow step (fuel - (n + 1)) (n + 1) (get (shape_of s) cpu (claimed (shape_of s) q t i k)) (zone h w m ts p) → y ≡ Search
     child_taken r f = f ∙ goes fuel n _ _ child_told l (ap answer r)
 
-    pub child_stands : {x' : Claimed} → x ≡ x' → 2 ≤ number (answer x') → went_to step fuel (Way.Goes (Record.Get cpu (Taking.Child q (Place.Own t) i k)) n) (zone h w m ts p) ≡ Search
-    child_stands r f = still fuel n _ _ child_told (rw r f)
+    pub child_stands : {u : Fault} → x ≡ Err u → went_to step fuel (Way.Goes (Record.Get cpu (Taking.Child q (Place.Own t) i k)) n) (zone h w m ts p) ≡ Search
+    child_stands {u} r = still fuel n _ _ child_told (rw r (fault_refused u))
 
-    module _ {d : ℕ} (r : x ≡ Claimed.Entry Took.Passed) (f : Turned d) where
+    module _ {d : ℕ} (r : x ≡ Ok Took.Passed) (f : Turned d) where
       pub search_fails : d ≡ i → went_to step fuel (Way.Goes (Record.Get cpu (Taking.Fail q (Place.Own t))) (n + 1)) (zone h w m ts p) ≡ Search
       unfolding went_to
       search_fails z = goes fuel n _ _ child_told l (ap answer r ∙ (f.next ∙ pick_yes _ _ _ (eq-eqb d i z)))

@@ -2,14 +2,17 @@
 use mathlib.Core.Path.{◌≡◌, refl, sym, ap, ◌∙◌}
 use mathlib.Core.Bool.{Bool, true, false}
 use mathlib.Core.List.{List, [], ◌++◌}
-use Prim.Native.Nat.{ℕ, ◌+◌, ◌-◌, ◌≤◌, ◌<◌}
+use Prim.Native.Nat.{ℕ, ◌+◌, ◌-◌, ◌≤◌, ◌<◌, max}
+use native.Mathlib.Decide.{dec_lt}
+use native.Mathlib.Nat.{max-eq_left, max-eq_right}
 use native.Mathlib.Omega.{arith}
 use Rattle.laws.specs.Tests.{passes, Passes}
 use Rattle.laws.specs.Tables.{Outcome, outcome}
 use Rattle.laws.proofs.Tests.{pick_no, all_passed, fails_of, passes_of, true_false}
 use Rattle.rules.specs.declared.Run.{Run}
 use Rattle.rules.specs.Ranges.{cpu_in, child_in, block_in, place_in, taking_in, step_range}
-use Rattle.rules.specs.Answers.{number}
+use Rattle.std.specs.Prelude.{Option, Some, Result, Ok, Err}
+use Rattle.rules.specs.Answers.{number, answer_of}
 use Rattle.rules.specs.Plan.{carried}
 use Rattle.rules.specs.Blocks.{size, first_of}
 use Rattle.rules.specs.Places.{place_tree}
@@ -20,7 +23,6 @@ use Rattle.places.specs.declared.BlockAt.{BlockAt}
 use Rattle.calls.specs.Results.{zone, result_of, done, way_by, went_to, Fits, Opened}
 use Rattle.calls.proofs.Opened.{checked_open}
 use Rattle.cpu_entries.specs.declared.Claimed.{Claimed as Owned}
-use Rattle.cpu_entries.specs.declared.Held.{Held}
 use Rattle.cpu_entries.specs.Steps.{claim_own_in, set_start_in}
 use Rattle.cpu_stages.specs.Tables.{in_cpus}
 use Rattle.cpu_stages.specs.Answers.{own_answer, held_answer}
@@ -30,7 +32,7 @@ use Rattle.word_stages.specs.Tables.{in_words, eighth}
 use Rattle.upper.proofs.Arms.{get_cpu, get_child, get_word, get_last}
 use Rattle.upper.proofs.Stepped.{step_out, step_acts}
 use Rattle.upper.proofs.Runs.{Makes, still, went, goes}
-use Rattle.get_runs.specs.Types.{Frame, Tree, Order, Block, Place, Taking, Record, Answer, Shape, Way}
+use Rattle.get_runs.specs.Types.{Frame, Tree, Order, Block, Place, Taking, Record, Answer, Fault, Shape, Way}
 
 -- ---- steps, by the table that holds the stage's entry
 
@@ -68,25 +70,42 @@ module _ {s : Shape} {cpu : ℕ} {h w c t p : List ℕ} (o : Opened s cpu h w c 
             ap (λ (x : Outcome Answer). result_of x.said (zone h w c t x.table)) (e ∙ pick_no _ _ _ q)
             ∙ step_out h w c t p (Record.Get cpu (Taking.Last b)) o.checks refl (fails_of (step_range (shape_of s) (Record.Get cpu (Taking.Last b))) (λ k. true_false (sym (passes_of (block_in (shape_of s) b) k.1) ∙ q)))
 
+-- ---- a fault: the answer is a refusal
+
+pub fault_refused : (f : Fault) → 2 ≤ number (answer_of f)
+fault_refused Fault.Damaged = omega arith
+fault_refused Fault.NotTaken = omega arith
+fault_refused Fault.NoEntry = omega arith
+fault_refused Fault.NoChild = omega arith
+fault_refused Fault.NoWord = omega arith
+fault_refused Fault.NoBit = omega arith
+fault_refused Fault.NoField = omega arith
+fault_refused Fault.TooMany = omega arith
+
 -- ---- the last step
 
-module _ {s : Shape} {cpu : ℕ} {h w c t p : List ℕ} (o : Opened s cpu h w c t p) (fuel k : ℕ) (l : k < fuel) (b : Block) {d : Block} (n : d ≡ b) {x : BlockAt} {u : Tree} {i : ℕ} (e : x ≡ block_at_in (shape_of s) d) (q : x ≡ BlockAt.At u i)
-    {a : Held} {m : List ℕ} (f : outcome a m ≡ set_start_in s.size cpu u i p) where
+-- the entry is the CPU's own or another's: the answer is the same
+held_both : (a : Answer) (b : Bool) → held_answer a a (Ok b) ≡ a
+held_both a true = refl
+held_both a false = refl
+
+module _ {s : Shape} {cpu : ℕ} {h w c t p : List ℕ} (o : Opened s cpu h w c t p) (fuel k : ℕ) (l : k < fuel) (b : Block) {d : Block} (n : d ≡ b) {x : Option BlockAt} {u : BlockAt} (e : x ≡ block_at_in (shape_of s) d) (q : x ≡ Some u)
+    {a : Result Bool Fault} {m : List ℕ} (f : outcome a m ≡ set_start_in s.size cpu u.tree u.child p) where
   abbrev last_answer : Answer
   last_answer = held_answer (Answer.Done (first_of b)) (Answer.Done (first_of b)) a
 
   last_told : Makes (zone h w c t p) (Record.Get cpu (Taking.Last b)) last_answer (zone h w c t m)
-  last_told = last_step o b (last_rule s cpu b p u i (rw n at e) q refl f refl)
+  last_told = last_step o b (last_rule s cpu b p (rw n at e) q refl f refl)
 
   abbrev Ending : Ran
   Ending = follow step (fuel - k) k (get (shape_of s) cpu (Taking.Last b)) (zone h w c t p)
 
-  pub last_done : {v : Frame} → last_answer ≡ Answer.Done (first_of b) → v ≡ first_of d → went_to step fuel (Way.Ends (record { answer = Answer.Done v; steps = k + 1 })) (zone h w c t m) ≡ Ending
+  pub last_done : {v : Frame} {y : Bool} → a ≡ Ok y → v ≡ first_of d → went_to step fuel (Way.Ends (record { answer = Answer.Done v; steps = k + 1 })) (zone h w c t m) ≡ Ending
   unfolding way_by
-  last_done r y = went fuel k _ _ last_told l (rw (y, n, r) refl)
+  last_done {v} {y} r z = went fuel k _ _ last_told l (rw (z, n, r, held_both (Answer.Done (first_of b)) y) refl)
 
-  pub last_stands : 2 ≤ number last_answer → went_to step fuel (Way.Goes (Record.Get cpu (Taking.Last b)) k) (zone h w c t m) ≡ Ending
-  last_stands r = still fuel k _ _ last_told r
+  pub last_stands : {y : Fault} → a ≡ Err y → went_to step fuel (Way.Goes (Record.Get cpu (Taking.Last b)) k) (zone h w c t m) ≡ Ending
+  last_stands {y} r = still fuel k _ _ last_told (rw r (fault_refused y))
 
 -- ---- the own entry
 
@@ -99,19 +118,27 @@ pub search_in_lem : (s : Shape) (cpu : ℕ) (q : Order) (p : Place) (i k : ℕ) 
 unfolding taking_in
 search_in_lem s cpu q p i k e r = all_passed _ (sym e ∙ r)
 
-module _ (s : Shape) (cpu : ℕ) (q : Order) (n : ℕ) {h w c t p : List ℕ} (o : Opened s cpu h w c t p) (fuel : ℕ) (l : fuel ≡ 0 → ⊥) (d : n ≡ size q) {x : Owned} {m : List ℕ} (e : outcome x m ≡ claim_own_in s.size cpu n p) where
+module _ (s : Shape) (cpu : ℕ) (q : Order) (n : ℕ) {h w c t p : List ℕ} (o : Opened s cpu h w c t p) (fuel : ℕ) (l : fuel ≡ 0 → ⊥) (d : n ≡ size q) {x : Result Owned Fault} {m : List ℕ} (e : outcome x m ≡ claim_own_in s.size cpu n p) where
   own_told : Makes (zone h w c t p) (Record.Get cpu (Taking.Own q)) (own_answer (shape_of s) cpu q x) (zone h w c t m)
   own_told = own_step o q (own_rule s cpu q p n d e refl)
 
   abbrev Begun : Ran
   Begun = follow step (fuel - 0) 0 (get (shape_of s) cpu (Taking.Own q)) (zone h w c t p)
 
-  pub own_claimed : {u : Tree} {i : ℕ} {y : Ran} → x ≡ Owned.Claimed u i → y ≡ follow step (fuel - 1) 1 (get (shape_of s) cpu (Taking.Child q (Place.Own u) i i)) (zone h w c t m) → y ≡ Begun
+  pub own_claimed : {u : Tree} {i : ℕ} {y : Ran} → x ≡ Ok (Owned.Claimed u i) → y ≡ follow step (fuel - 1) 1 (get (shape_of s) cpu (Taking.Child q (Place.Own u) i i)) (zone h w c t m) → y ≡ Begun
   own_claimed r f = f ∙ goes fuel 0 _ _ own_told (some_fuel l) (ap (own_answer (shape_of s) cpu q) r)
 
-  pub own_goes : {v : Owned} {r : Record} → x ≡ v → own_answer (shape_of s) cpu q v ≡ Answer.UnderWay r → went_to step fuel (Way.Goes r 1) (zone h w c t m) ≡ Begun
+  pub own_goes : {v : Owned} {r : Record} → x ≡ Ok v → own_answer (shape_of s) cpu q (Ok v) ≡ Answer.UnderWay r → went_to step fuel (Way.Goes r 1) (zone h w c t m) ≡ Begun
   unfolding way_by
   own_goes u r = went fuel 0 _ _ own_told (some_fuel l) (rw (u, r) refl)
 
-  pub own_stands : {v : Owned} → x ≡ v → 2 ≤ number (own_answer (shape_of s) cpu q v) → went_to step fuel (Way.Goes (Record.Get cpu (Taking.Own q)) 0) (zone h w c t m) ≡ Begun
-  own_stands u r = still fuel 0 _ _ own_told (rw u r)
+  pub own_stands : {v : Fault} → x ≡ Err v → went_to step fuel (Way.Goes (Record.Get cpu (Taking.Own q)) 0) (zone h w c t m) ≡ Begun
+  own_stands {v} u = still fuel 0 _ _ own_told (rw u (fault_refused v))
+
+-- ---- where a count from a up to b ends
+
+pub counted_to : (a b n : ℕ) → (a ≤ b → n ≤ b) → (b ≤ a → n ≡ a) → b ≤ n → max a b ≡ n
+counted_to a b n p q l = elim (dec_lt a b) [
+  | yes h ↦ let m = p (omega arith) in max-eq_right (omega arith) ∙ omega arith
+  | no h ↦ max-eq_left (omega arith) ∙ sym (q (omega arith))
+]

@@ -10,9 +10,7 @@ pub use Rattle.rules.specs.declared.Taking.{Taking}
 pub use Rattle.rules.specs.declared.Record.{Record}
 pub use Rattle.rules.specs.declared.Answer.{Answer}
 pub use Rattle.rules.specs.declared.Took.{Took}
-pub use Rattle.rules.specs.declared.Bit.{Bit}
-pub use Rattle.lower.specs.declared.Claimed.{Claimed}
-pub use Rattle.lower.specs.declared.Taken.{Taken}
+pub use Rattle.rules.specs.declared.Fault.{Fault}
 pub use Rattle.places.specs.declared.Shape.{Shape}
 pub use Rattle.calls.specs.declared.Way.{Way}
 pub use Rattle.get_runs.specs.declared.At.{At}

@@ -16,11 +16,12 @@ ghost use Rattle.get_runs.specs.Claims.{no_child, claims_in, claimed};
 ghost use Rattle.get_runs.specs.Stands.{standing, block_of, way_left};
 
 use begins::Getting;
-use calls::{Checked, Ended, Way};
-use cpu_entries::{Claimed, Held};
-use lower::Taken;
+use calls::{Ended, Way};
+use cpu_entries::Claimed;
 use places::{BlockAt, Shape};
-use rules::{Answer, Bit, Block, Frame, Huge, Order, Pass, Place, Record, Run, Taking, Took, Tree};
+use rules::{
+    Answer, Block, Fault, Frame, Huge, Order, Pass, Place, Record, Run, Taking, Took, Tree,
+};
 
 const CHILD_WORDS: u8 = 8;
 
@@ -181,7 +182,8 @@ fn way_left(cpu: u8, left: Left) -> Way
     }
 }
 
-// Rule 6.
+// Rule 6. Inlined, for the bar of a get and put in one call (D105).
+#[inline(always)]
 fn last_on(
     header: &[u64],
     words: &[u64],
@@ -205,25 +207,21 @@ fn last_on(
         return left;
     }
     let block = block_of(order, tree, child, first);
-    match places::block_at(shape, block) {
-        BlockAt::Nowhere => left,
-        BlockAt::At {
+    let Some(
+        BlockAt {
             tree: held,
             child: found,
-        } => {
-            match cpu_entries::set_start(cpus, shape.size, cpu as usize, held, found) {
-                Held::Held => {
-                    let end = places::first_of(block);
-                    taken(At::Done, order, tree, child, end, steps + 1)
-                }
-                Held::Missed => {
-                    let end = places::first_of(block);
-                    taken(At::Done, order, tree, child, end, steps + 1)
-                }
-                Held::Damaged => left,
-                Held::NoCpu => left,
-            }
+        },
+    ) = places::block_at(shape, block)
+    else {
+        return left;
+    };
+    match cpu_entries::set_start(cpus, shape.size, cpu as usize, held, found) {
+        Ok(_) => {
+            let end = places::first_of(block);
+            taken(At::Done, order, tree, child, end, steps + 1)
         }
+        Err(_) => left,
     }
 }
 
@@ -248,28 +246,21 @@ fn word_on(
 {
     let order = Order::Run(run);
     let mut steps = made;
-    let mut word: u8 = 0;
-    while word < CHILD_WORDS {
+    for word in 0..CHILD_WORDS {
         if fuel <= steps {
             return at_word(order, tree, start, child, word, steps);
         }
         match word_stages::take_run(words, shape, tree, child, word, run) {
-            Taken::Word(found) => match found {
-                Bit::At(bit) => {
-                    let first = word_stages::frame_at(shape, tree, child, word, bit);
-                    return taken(At::Last, order, tree, child, first, steps + 1);
-                }
-                Bit::Full => {}
-            },
-            Taken::NoChild => {
-                return at_word(order, tree, start, child, word, steps);
+            Ok(Some(bit)) => {
+                let first = word_stages::frame_at(shape, tree, child, word, bit);
+                return taken(At::Last, order, tree, child, first, steps + 1);
             }
-            Taken::NoWord => {
+            Ok(None) => {}
+            Err(_) => {
                 return at_word(order, tree, start, child, word, steps);
             }
         }
         steps += 1;
-        word += 1;
     }
     stands(At::GiveBack, order, tree, start, child, steps)
 }
@@ -302,7 +293,13 @@ fn taken_on(
 }
 
 // The claim of a run, or the taking of a huge frame.
-fn claim(children: &mut [u16], shape: Shape, order: Order, tree: Tree, child: u8) -> lower::Claimed
+fn claim(
+    children: &mut [u16],
+    shape: Shape,
+    order: Order,
+    tree: Tree,
+    child: u8,
+) -> Result<Took, Fault>
     ensures { outcome result children.new ≡ lent_children (shape_of shape) tree no_child (λ l. claims_in order l child) children.old }
 {
     match order {
@@ -330,47 +327,40 @@ fn child_on(
     ensures { WentOn step fuel made (Record.Get cpu (Taking.Child order (Place.Own tree) start start)) (way_left cpu result) (zone header.now words.new children.new trees.now cpus.now) (zone header.now words.old children.old trees.now cpus.now) }
 {
     let width = entries::children_of(shape.size, tree) as u8;
-    let mut steps = made;
     let mut child = start;
-    while steps < fuel {
+    for steps in made..fuel {
         match claim(children, shape, order, tree, child) {
-            lower::Claimed::Entry(took) => match took {
-                Took::Taken => {
-                    return taken_on(
-                        header,
-                        words,
-                        children,
-                        trees,
-                        cpus,
-                        shape,
-                        cpu,
-                        order,
-                        tree,
-                        start,
-                        child,
-                        steps + 1,
-                        fuel,
-                    );
-                }
-                Took::Passed => {}
-                Took::Damaged => {
-                    return stands(At::Child, order, tree, start, child, steps);
-                }
-            },
-            lower::Claimed::NoChild => {
+            Ok(Took::Taken) => {
+                return taken_on(
+                    header,
+                    words,
+                    children,
+                    trees,
+                    cpus,
+                    shape,
+                    cpu,
+                    order,
+                    tree,
+                    start,
+                    child,
+                    steps + 1,
+                    fuel,
+                );
+            }
+            Ok(Took::Passed) => {}
+            Err(_) => {
                 return stands(At::Child, order, tree, start, child, steps);
             }
         }
-        steps += 1;
         child += 1;
         if child == width {
             child = 0;
         }
         if child == start {
-            return stands(At::Fail, order, tree, 0, 0, steps);
+            return stands(At::Fail, order, tree, 0, 0, steps + 1);
         }
     }
-    stands(At::Child, order, tree, start, child, steps)
+    stands(At::Child, order, tree, start, child, made.max(fuel))
 }
 
 // Rule 1.
@@ -392,8 +382,8 @@ fn own_on(
         return stands(At::Own, order, Tree(0), 0, 0, 0);
     }
     match cpu_entries::claim_own(cpus, shape.size, cpu as usize, places::frames_of(order)) {
-        Claimed::Absent => stands(At::Try, order, Tree(0), 0, 0, 1),
-        Claimed::Claimed { tree, start } => {
+        Ok(Claimed::Absent) => stands(At::Try, order, Tree(0), 0, 0, 1),
+        Ok(Claimed::Claimed { tree, start }) => {
             if places::search_in(shape, cpu, Place::Own(tree), start, start) {
                 let left = child_on(
                     header, words, children, trees, cpus, shape, cpu, order, tree, start, 1, fuel,
@@ -406,9 +396,8 @@ fn own_on(
             }
             stands(At::Child, order, tree, start, start, 1)
         }
-        Claimed::Short(tree) => stands(At::TakeCount, order, tree, 0, 0, 1),
-        Claimed::Damaged => stands(At::Own, order, Tree(0), 0, 0, 0),
-        Claimed::NoCpu => stands(At::Own, order, Tree(0), 0, 0, 0),
+        Ok(Claimed::Short(tree)) => stands(At::TakeCount, order, tree, 0, 0, 1),
+        Err(_) => stands(At::Own, order, Tree(0), 0, 0, 0),
     }
 }
 
@@ -433,8 +422,8 @@ pub fn get_on(
         return Way::Goes { rec, steps: 0 };
     }
     match calls::check(header, words.len(), children.len(), trees.len(), cpus.len()) {
-        Checked::Refused(answer) => calls::way_of(answer, 1),
-        Checked::Zone(shape) => {
+        Err(answer) => calls::way_of(answer, 1),
+        Ok(shape) => {
             if shape.cpus <= cpu {
                 return calls::way_of(Answer::BadRecord, 1);
             }
@@ -460,12 +449,14 @@ pub fn get_run(
     ensures { went_to step fuel result (zone header.now words.new children.new trees.now cpus.new) ≡ follow step fuel 0 (begin_get (zone header.now words.old children.old trees.now cpus.old) cpu order).answer (zone header.now words.old children.old trees.now cpus.old) }
 {
     match begins::get_of(header, words, children, trees, cpus, cpu, order) {
-        Getting::Refused(answer) => calls::way_of(answer, 0),
-        Getting::Of {
-            shape,
-            cpu: own,
-            order: known,
-        } => {
+        Err(answer) => calls::way_of(answer, 0),
+        Ok(
+            Getting {
+                shape,
+                cpu: own,
+                order: known,
+            },
+        ) => {
             let left = own_on(
                 header, words, children, trees, cpus, shape, own, known, fuel,
             );

@@ -2,27 +2,30 @@
 use mathlib.Core.Path.{◌≡◌, refl, sym, ap, ◌∙◌}
 use mathlib.Core.Bool.{Bool, true, false}
 use mathlib.Core.List.{List}
-use Prim.Native.Nat.{ℕ, ◌+◌, ◌-◌, ◌≤◌, ◌<◌}
+use Prim.Native.Nat.{ℕ, ◌+◌, ◌-◌, ◌^◌, ◌≤◌, ◌<◌}
 use native.Mathlib.Omega.{arith}
-use lib.Dec.{leb, ltb}
+use lib.Dec.{eqb, leb, ltb}
 use lib.ListN.{length, get_or, set}
 use lib.Seq.{drop-drop}
 use borrow.Author.Tests.{ltb-true, leb-true, le-ltb, le-leb, lt-leb}
 use borrow.Rule.Slice.PartMut.{mid_of, put_mid}
+use Rattle.std.specs.Prelude.{Option, Some, None, Result, Ok, Err}
 use Rattle.laws.specs.Tests.{pick}
 use Rattle.laws.specs.Parts.{part, replaced}
 use Rattle.laws.specs.Tables.{Outcome, outcome, wrapped}
+use Rattle.laws.specs.Words.{bits}
 use Rattle.laws.proofs.Tests.{pick_elim, pick_yes, pick_no}
 use Rattle.laws.proofs.Parts.{part_length, part_at, replaced_same, replaced_set}
-use Rattle.rules.specs.Numbers.{Shape}
+use Rattle.rules.specs.declared.ChildEntry.{ChildEntry}
+use Rattle.rules.specs.Numbers.{child_frames, Shape}
 use Rattle.rules.specs.Blocks.{tree_of_block, child_of_block}
-use Rattle.rules.specs.Lower.{Change, keep, become, Lowered}
-use Rattle.rules.specs.Plan.{Mark, plain, Made, by_change, by_gave, lowered, on_gave}
+use Rattle.rules.specs.Lower.{Change, keep, become, Lowered, told, changed, child_says, by_child, count_word, give_count, clear_huge, clear_run}
+use Rattle.rules.specs.Plan.{Mark, Made, by_change, by_gave, on_gave}
 use Rattle.lower.specs.Tables.{turned, step_at}
 use Rattle.places.specs.Shapes.{block_at_in, ranged}
 use Rattle.places.specs.declared.BlockAt.{BlockAt}
 use Rattle.places.proofs.Blocks.{block_in_lem}
-use Rattle.lending.specs.Types.{Tree, Block, Gave, Answer, Given}
+use Rattle.lending.specs.Types.{Tree, Block, Fault, Answer}
 use Rattle.lending.specs.Tables.{lent, made_at, made_in}
 use Rattle.lending.specs.Answers.{given_answer}
 
@@ -87,18 +90,36 @@ module _ {B : Type 0} (none : B) (h : B → Answer) (refused : h none ≡ Answer
 
 -- ---- the change is the lower level's, the answer is of what it said
 
-pub gave_same : (o : Lowered Gave) (x : Answer) (k : Mark) → (o.change ≡ (on_gave o x k).change) × (given_answer x (Given.Entry o.said) ≡ (on_gave o x k).answer)
-unfolding by_gave
-gave_same o x k = go o.said
-  where
-    go : (s : Gave) → let m : Made ℕ = by_gave s (lowered o x k) (lowered o Answer.NotTaken plain) (lowered o Answer.Damaged plain) in (o.change ≡ m.change) × (given_answer x (Given.Entry s) ≡ m.answer)
-    go Gave.Given = (refl, refl)
-    go Gave.NotTaken = (refl, refl)
-    go Gave.Damaged = (refl, refl)
+module _ (x : Answer) (k : Mark) where
+  abbrev pub SameGave : Lowered (Result Unit Fault) → Type 0
+  SameGave o = (o.change ≡ (on_gave o x k).change) × (given_answer x o.said ≡ (on_gave o x k).answer)
+
+  -- a count given back, a huge frame's child cleared, a run of bits cleared
+  pub count_same : (s v : ℕ) → SameGave (give_count s v)
+  unfolding give_count by_child by_gave
+  count_same s v = go (child_says v)
+    where
+      go : (d : Option ChildEntry) → SameGave (by_child d (told (Err Fault.Damaged)) (λ n. pick (leb (n + s) child_frames) (changed (Ok tt) (count_word (n + s))) (told (Err Fault.Damaged))) (told (Err Fault.Damaged)))
+      go None = (refl, refl)
+      go (Some (ChildEntry.Counts n)) = pick_elim SameGave (leb (n + s) child_frames) (λ e. (refl, refl)) (λ e. (refl, refl))
+      go (Some ChildEntry.Flagged) = (refl, refl)
+
+  pub huge_same : (v : ℕ) → SameGave (clear_huge v)
+  unfolding clear_huge by_child by_gave
+  huge_same v = go (child_says v)
+    where
+      go : (d : Option ChildEntry) → SameGave (by_child d (told (Err Fault.Damaged)) (λ n. told (Err Fault.NotTaken)) (changed (Ok tt) (count_word child_frames)))
+      go None = (refl, refl)
+      go (Some (ChildEntry.Counts n)) = (refl, refl)
+      go (Some ChildEntry.Flagged) = (refl, refl)
+
+  pub run_same : (s b v : ℕ) → SameGave (clear_run s b v)
+  unfolding clear_run by_gave
+  run_same s b v = pick_elim SameGave (eqb (bits s b v) (2 ^ s - 1)) (λ e. (refl, refl)) (λ e. (refl, refl))
 
 -- ---- a block's tree and child
 
--- what is done with tree t and its child c is done with the block's
-pub block_there : (g : Shape) (b : Block) (f : List ℕ → Outcome Answer) (l : List ℕ) {r : BlockAt} → r ≡ block_at_in g b → {t : Tree} {c : ℕ} (F : Tree → ℕ → Outcome Answer) {o : Outcome Answer} → r ≡ BlockAt.At t c → o ≡ F t c
+-- what is done with the tree and the child where the block lies is done with the block's
+pub block_there : (g : Shape) (b : Block) (f : List ℕ → Outcome Answer) (l : List ℕ) {r : Option BlockAt} → r ≡ block_at_in g b → {a : BlockAt} (F : Tree → ℕ → Outcome Answer) {o : Outcome Answer} → r ≡ Some a → o ≡ F a.tree a.child
     → F (tree_of_block g b) (child_of_block g b) ≡ f l → o ≡ ranged g b f l
-block_there g b f l e {t} {c} F q p z = block_in_lem g b f l e q (λ u v. p ∙ ap (λ y. F y c) u ∙ ap (F (tree_of_block g b)) v ∙ z)
+block_there g b f l e {a} F q p z = block_in_lem g b f l e q (λ u v. p ∙ ap (λ y. F y a.child) u ∙ ap (F (tree_of_block g b)) v ∙ z)

@@ -7,6 +7,8 @@ use native.Mathlib.Omega.{arith}
 use lib.ListN.{length, get_or}
 use borrow.Author.Tests.{le-leb, lt-leb}
 use borrow.Rule.Slice.PartMut.{mid_of}
+use Rattle.std.specs.Prelude.{Result}
+use Rattle.std.specs.Result.{result_unwrap_or}
 use Rattle.laws.specs.Tests.{every}
 use Rattle.laws.specs.Parts.{part}
 use Rattle.laws.proofs.Tests.{pick_yes, pick_no}
@@ -18,8 +20,8 @@ use Rattle.lower.specs.Steps.{sum_in}
 use Rattle.entries.specs.Sizes as Sizes
 use Rattle.places.specs.Shapes.{shape_of}
 use Rattle.places.proofs.Ranges.{children_same}
-use Rattle.looks.specs.Types.{Tree, Summed, Shape}
-use Rattle.looks.specs.Entries.{child_count_in, summed_as}
+use Rattle.looks.specs.Types.{Tree, Fault, Shape}
+use Rattle.looks.specs.Entries.{child_count_in}
 use Rattle.looks.specs.Looks.{children_formed_in, part_formed_in}
 use Rattle.looks.proofs.Loops.{lacks, has}
 
@@ -41,12 +43,12 @@ module _ (s : Shape) (t : Tree) (cs : List ℕ) {n : ℕ} (e : n ≡ children_of
   unfolding child_count_in
   not_counted h = sym (pick_no _ _ _ (lt-leb (a + k) (length cs) (omega (arith, kids))))
 
-  pub counted : a + n ≤ length cs → {x : Summed} → x ≡ sum_in (mid_of a (a + n - a) cs) → summed_as x ≡ child_count_in s t cs
+  pub counted : a + n ≤ length cs → {x : Result ℕ Fault} → x ≡ sum_in (mid_of a (a + n - a) cs) → result_unwrap_or x 0 ≡ child_count_in s t cs
   unfolding child_count_in child_count sum_in
   counted h q =
       let m : a + n - a ≡ k = omega (arith, kids) in
       let l : length (part a k cs) ≡ k = part_length a k cs (omega (arith, kids)) in
-      ap summed_as ((rw m at q) ∙ pick_yes _ _ _ (le-leb (length (part a k cs)) most_huge (omega (arith, l, few))))
+      ap (λ (x : Result ℕ Fault). result_unwrap_or x 0) ((rw m at q) ∙ pick_yes _ _ _ (le-leb (length (part a k cs)) most_huge (omega (arith, l, few))))
       ∙ (ap (part_sum (part a k cs)) l
       ∙ sym (pick_yes _ _ _ (le-leb (a + k) (length cs) (omega (arith, kids)))))
 

@@ -1,81 +1,76 @@
 -- One entry looked at, by what its own crate says of it.
-use Rattle.std.specs.Prelude.{Bool, true, false, List, [], ℕ, ◌+◌, ◌*◌, eqb, leb, length}
+use Rattle.std.specs.Prelude.{Bool, true, false, List, [], ℕ, ◌+◌, ◌*◌, eqb, leb, length, Result, Ok, Err, is_ok}
+use Rattle.std.specs.Result.{result_unwrap_or}
 use Rattle.laws.specs.Tests.{pick}
 use Rattle.laws.specs.Sum.{sum_to}
 use Rattle.rules.specs.Numbers.{per_tree, children_of}
-use Rattle.rules.specs.Lower.{by_child}
-use Rattle.rules.specs.Plan.{by_cpu, by_tree}
 use Rattle.rules.specs.Open.{child_count}
 use Rattle.lower.specs.Steps as Lower
 use Rattle.entries.specs.Steps.{look_tree_in}
 use Rattle.cpu_entries.specs.Steps.{look_cpu_in}
 use Rattle.places.specs.Shapes.{shape_of}
 use Rattle.calls.specs.Results.{zone}
-use Rattle.looks.specs.Types.{Tree, Looked, Empty, Zeros, Summed, TreeLook, CpuLook, Shape}
+use Rattle.looks.specs.Types.{Tree, ChildEntry, TreeEntry, CpuEntry, Fault, Shape}
 
 -- ---- a child
 
-abbrev pub formed_as : Looked → Bool
-formed_as (Looked.Entry e) = by_child e false (λ k. true) true
-formed_as Looked.NoChild = false
-
-abbrev pub empty_as : Empty → Bool
-empty_as Empty.Yes = true
-empty_as Empty.No = false
-empty_as Empty.NoField = false
+abbrev pub formed_in : List ℕ → ℕ → Bool
+formed_in cs c = is_ok (Lower.look_in cs c)
 
 abbrev pub empty_in : List ℕ → ℕ → Bool
-empty_in ws c = empty_as (Lower.empty_in ws c)
+empty_in ws c = result_unwrap_or (Lower.empty_in ws c) false
+
+-- where an entry cannot be told: x of a malformed one, y of one that the table lacks
+abbrev pub by_fault : {A : Type 0} → Fault → A → A → A
+by_fault Fault.Damaged x y = x
+by_fault Fault.NotTaken x y = y
+by_fault Fault.NoEntry x y = y
+by_fault Fault.NoChild x y = y
+by_fault Fault.NoWord x y = y
+by_fault Fault.NoBit x y = y
+by_fault Fault.NoField x y = y
+by_fault Fault.TooMany x y = y
 
 -- one with a set, by its field
-abbrev pub flag_as : Bool → Looked → Bool
-flag_as b (Looked.Entry e) = by_child e true (λ k. true) b
-flag_as b Looked.NoChild = false
+abbrev pub flag_as : Bool → Result ChildEntry Fault → Bool
+flag_as b (Ok (ChildEntry.Counts k)) = true
+flag_as b (Ok ChildEntry.Flagged) = b
+flag_as b (Err f) = by_fault f true false
 
 abbrev pub flag_in : List ℕ → List ℕ → ℕ → Bool
 flag_in cs ws c = flag_as (empty_in ws c) (Lower.look_in cs c)
 
-abbrev pub counts_as : ℕ → Zeros → Bool
-counts_as k (Zeros.Bits z) = eqb k z
-counts_as k Zeros.NoField = false
+abbrev pub counts_as : ℕ → Result ℕ Fault → Bool
+counts_as k (Ok z) = eqb k z
+counts_as k (Err f) = false
 
 -- one with a clear, by its zero bits; a malformed one counts none
-abbrev pub settled_as : Zeros → Looked → Bool
-settled_as z (Looked.Entry e) = by_child e (counts_as 0 z) (λ k. counts_as k z) true
-settled_as z Looked.NoChild = false
+abbrev pub settled_as : Result ℕ Fault → Result ChildEntry Fault → Bool
+settled_as z (Ok (ChildEntry.Counts k)) = counts_as k z
+settled_as z (Ok ChildEntry.Flagged) = true
+settled_as z (Err f) = by_fault f (counts_as 0 z) false
 
 abbrev pub settled_in : List ℕ → List ℕ → ℕ → Bool
 settled_in cs ws c = settled_as (Lower.zeros_in ws c) (Lower.look_in cs c)
 
 -- ---- a tree's entry and a CPU's
 
-abbrev pub tree_formed_as : TreeLook → Bool
-tree_formed_as (TreeLook.Entry e) = by_tree e false (λ r k. true)
-tree_formed_as TreeLook.NoTree = false
-
-abbrev pub cpu_formed_as : CpuLook → Bool
-cpu_formed_as (CpuLook.Entry e) = by_cpu e false true (λ t s k. true)
-cpu_formed_as CpuLook.NoCpu = false
-
-abbrev pub tree_count_as : TreeLook → ℕ
-tree_count_as (TreeLook.Entry e) = by_tree e 0 (λ r k. k)
-tree_count_as TreeLook.NoTree = 0
+abbrev pub tree_count_as : Result TreeEntry Fault → ℕ
+tree_count_as (Ok e) = e.count
+tree_count_as (Err f) = 0
 
 -- what an entry counts of tree t
-abbrev pub cpu_count_as : Tree → CpuLook → ℕ
-cpu_count_as t (CpuLook.Entry e) = by_cpu e 0 0 (λ u s k. pick (eqb u.0 t.0) k 0)
-cpu_count_as t CpuLook.NoCpu = 0
-
-abbrev pub summed_as : Summed → ℕ
-summed_as (Summed.Frames k) = k
-summed_as Summed.TooMany = 0
+abbrev pub cpu_count_as : Tree → Result CpuEntry Fault → ℕ
+cpu_count_as t (Ok CpuEntry.Absent) = 0
+cpu_count_as t (Ok (CpuEntry.Holds u s k)) = pick (eqb u.0 t.0) k 0
+cpu_count_as t (Err f) = 0
 
 module _ (s : Shape) where
   abbrev pub tree_formed_in : Tree → List ℕ → Bool
-  tree_formed_in t ts = tree_formed_as (look_tree_in s.size t ts)
+  tree_formed_in t ts = is_ok (look_tree_in s.size t ts)
 
   abbrev pub cpu_formed_in : ℕ → List ℕ → Bool
-  cpu_formed_in j ps = cpu_formed_as (look_cpu_in s.size j ps)
+  cpu_formed_in j ps = is_ok (look_cpu_in s.size j ps)
 
   -- ---- a tree's counts
 

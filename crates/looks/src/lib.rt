@@ -3,15 +3,12 @@
 #![tactic(auto)]
 
 ghost use Rattle.std.specs.Prelude.{◌≡◌};
-ghost use Rattle.lower.specs.Steps.{look_in, zeros_in};
-ghost use Rattle.looks.specs.Entries.{formed_as, empty_in, flag_in, counts_as, settled_in, tree_formed_in, cpu_formed_in, tree_count_in, cpu_count_in, held_in, child_count_in, tree_settled_in};
+ghost use Rattle.lower.specs.Steps.{zeros_in};
+ghost use Rattle.looks.specs.Entries.{formed_in, empty_in, flag_in, counts_as, settled_in, tree_formed_in, cpu_formed_in, tree_count_in, cpu_count_in, held_in, child_count_in, tree_settled_in};
 ghost use Rattle.looks.specs.Looks.{children_formed_in, part_formed_in, flags_empty_in, children_settled_in, trees_formed_in, cpus_formed_in, trees_settled_in};
 
-use cpu_entries::CpuLook;
-use entries::TreeLook;
-use lower::{Empty, Looked, Summed, Zeros};
 use places::Shape;
-use rules::{ChildEntry, CpuEntry, Tree, TreeEntry};
+use rules::{ChildEntry, CpuEntry, Fault, Tree};
 
 const CHILD_WORDS: usize = 8;
 
@@ -20,41 +17,23 @@ const TREE_CHILDREN: usize = 32;
 // ---- children
 
 fn child_formed(children: &[u16], child: usize) -> bool
-    ensures { result ≡ formed_as (look_in children.now child) }
+    ensures { result ≡ formed_in children.now child }
 {
-    match lower::look(children, child) {
-        Looked::Entry(entry) => match entry {
-            ChildEntry::Damaged => false,
-            ChildEntry::Counts(_) => true,
-            ChildEntry::Flagged => true,
-        },
-        Looked::NoChild => false,
-    }
+    lower::look(children, child).is_ok()
 }
 
 // No malformed child.
 pub fn children_formed(children: &[u16]) -> bool
     ensures { result ≡ children_formed_in children.now }
 {
-    let mut child: usize = 0;
-    while child < children.len() {
-        if !child_formed(children, child) {
-            return false;
-        }
-        child += 1;
-    }
-    true
+    (0..children.len()).all(|child| child_formed(children, child))
 }
 
 // Whether a child's field is all zero.
 fn empty(words: &[u64], child: usize) -> bool
     ensures { result ≡ empty_in words.now child }
 {
-    match lower::field_empty(words, child) {
-        Empty::Yes => true,
-        Empty::No => false,
-        Empty::NoField => false,
-    }
+    lower::field_empty(words, child).unwrap_or(false)
 }
 
 // A child with a set has an empty field.
@@ -62,12 +41,9 @@ fn flag_fits(children: &[u16], words: &[u64], child: usize) -> bool
     ensures { result ≡ flag_in children.now words.now child }
 {
     match lower::look(children, child) {
-        Looked::Entry(entry) => match entry {
-            ChildEntry::Damaged => true,
-            ChildEntry::Counts(_) => true,
-            ChildEntry::Flagged => empty(words, child),
-        },
-        Looked::NoChild => false,
+        Ok(ChildEntry::Counts(_)) => true,
+        Ok(ChildEntry::Flagged) => empty(words, child),
+        Err(fault) => fault == Fault::Damaged,
     }
 }
 
@@ -78,24 +54,14 @@ pub fn flags_empty(children: &[u16], words: &[u64]) -> bool
     if words.len() / CHILD_WORDS < children.len() {
         return false;
     }
-    let mut child: usize = 0;
-    while child < children.len() {
-        if !flag_fits(children, words, child) {
-            return false;
-        }
-        child += 1;
-    }
-    true
+    (0..children.len()).all(|child| flag_fits(children, words, child))
 }
 
 // Whether a count is that of the zero bits of a child's field.
 fn counts(words: &[u64], child: usize, count: u16) -> bool
     ensures { result ≡ counts_as count (zeros_in words.now child) }
 {
-    match lower::zero_bits(words, child) {
-        Zeros::Bits(zeros) => count == zeros,
-        Zeros::NoField => false,
-    }
+    lower::zero_bits(words, child) == Ok(count)
 }
 
 // A child with a clear counts its zero bits; a malformed one counts none.
@@ -103,12 +69,9 @@ fn child_settled(children: &[u16], words: &[u64], child: usize) -> bool
     ensures { result ≡ settled_in children.now words.now child }
 {
     match lower::look(children, child) {
-        Looked::Entry(entry) => match entry {
-            ChildEntry::Damaged => counts(words, child, 0),
-            ChildEntry::Counts(count) => counts(words, child, count),
-            ChildEntry::Flagged => true,
-        },
-        Looked::NoChild => false,
+        Ok(ChildEntry::Counts(count)) => counts(words, child, count),
+        Ok(ChildEntry::Flagged) => true,
+        Err(fault) => fault == Fault::Damaged && counts(words, child, 0),
     }
 }
 
@@ -119,14 +82,7 @@ pub fn children_settled(children: &[u16], words: &[u64]) -> bool
     if words.len() / CHILD_WORDS < children.len() {
         return false;
     }
-    let mut child: usize = 0;
-    while child < children.len() {
-        if !child_settled(children, words, child) {
-            return false;
-        }
-        child += 1;
-    }
-    true
+    (0..children.len()).all(|child| child_settled(children, words, child))
 }
 
 // ---- trees and CPUs
@@ -134,16 +90,7 @@ pub fn children_settled(children: &[u16], words: &[u64]) -> bool
 fn tree_formed(trees: &[u16], shape: Shape, tree: Tree) -> bool
     ensures { result ≡ tree_formed_in shape tree trees.now }
 {
-    match entries::look_tree(trees, shape.size, tree) {
-        TreeLook::Entry(entry) => match entry {
-            TreeEntry::Damaged => false,
-            TreeEntry::Counts {
-                reserved: _,
-                count: _,
-            } => true,
-        },
-        TreeLook::NoTree => false,
-    }
+    entries::look_tree(trees, shape.size, tree).is_ok()
 }
 
 // No malformed tree entry. Fails where the table lacks one.
@@ -154,49 +101,23 @@ pub fn trees_formed(trees: &[u16], shape: Shape) -> bool
     if trees.len() < n as usize {
         return false;
     }
-    let mut tree: u16 = 0;
-    while tree < n {
-        if !tree_formed(trees, shape, Tree(tree)) {
-            return false;
-        }
-        tree += 1;
-    }
-    true
+    (0..n).all(|tree| tree_formed(trees, shape, Tree(tree)))
 }
 
 fn cpu_formed(cpus: &[u64], shape: Shape, cpu: u8) -> bool
     ensures { result ≡ cpu_formed_in shape cpu cpus.now }
 {
-    match cpu_entries::look_cpu(cpus, shape.size, cpu as usize) {
-        CpuLook::Entry(entry) => match entry {
-            CpuEntry::Damaged => false,
-            CpuEntry::Absent => true,
-            CpuEntry::Holds {
-                tree: _,
-                start: _,
-                count: _,
-            } => true,
-        },
-        CpuLook::NoCpu => false,
-    }
+    cpu_entries::look_cpu(cpus, shape.size, cpu as usize).is_ok()
 }
 
 // No malformed CPU entry. Fails where the table lacks one.
 pub fn cpus_formed(cpus: &[u64], shape: Shape) -> bool
     ensures { result ≡ cpus_formed_in shape cpus.now }
 {
-    let n = shape.cpus;
-    if cpus.len() < n as usize {
+    if cpus.len() < shape.cpus as usize {
         return false;
     }
-    let mut cpu: u8 = 0;
-    while cpu < n {
-        if !cpu_formed(cpus, shape, cpu) {
-            return false;
-        }
-        cpu += 1;
-    }
-    true
+    (0..shape.cpus).all(|cpu| cpu_formed(cpus, shape, cpu))
 }
 
 // ---- a tree's count, the CPU counts that hold it, its children's sum
@@ -204,34 +125,22 @@ pub fn cpus_formed(cpus: &[u64], shape: Shape) -> bool
 fn tree_count(trees: &[u16], shape: Shape, tree: Tree) -> u16
     ensures { result ≡ tree_count_in shape tree trees.now }
 {
-    match entries::look_tree(trees, shape.size, tree) {
-        TreeLook::Entry(entry) => match entry {
-            TreeEntry::Damaged => 0,
-            TreeEntry::Counts { reserved: _, count } => count,
-        },
-        TreeLook::NoTree => 0,
-    }
+    entries::look_tree(trees, shape.size, tree).map_or(0, |entry| entry.count)
 }
 
 fn cpu_count(cpus: &[u64], shape: Shape, tree: Tree, cpu: u8) -> u16
     ensures { result ≡ cpu_count_in shape tree cpu cpus.now }
 {
     match cpu_entries::look_cpu(cpus, shape.size, cpu as usize) {
-        CpuLook::Entry(entry) => match entry {
-            CpuEntry::Damaged => 0,
-            CpuEntry::Absent => 0,
+        Ok(
             CpuEntry::Holds {
                 tree: held,
                 start: _,
                 count,
-            } => {
-                if held.0 == tree.0 {
-                    return count;
-                }
-                0
-            }
-        },
-        CpuLook::NoCpu => 0,
+            },
+        ) if held == tree => count,
+        Ok(_) => 0,
+        Err(_) => 0,
     }
 }
 
@@ -239,14 +148,9 @@ fn cpu_count(cpus: &[u64], shape: Shape, tree: Tree, cpu: u8) -> u16
 fn held_of(cpus: &[u64], shape: Shape, tree: Tree) -> u32
     ensures { result ≡ held_in shape tree cpus.now }
 {
-    let n = shape.cpus;
-    let mut frames: u32 = 0;
-    let mut cpu: u8 = 0;
-    while cpu < n {
-        frames += cpu_count(cpus, shape, tree, cpu) as u32;
-        cpu += 1;
-    }
-    frames
+    (0..shape.cpus)
+        .map(|cpu| cpu_count(cpus, shape, tree, cpu) as u32)
+        .sum()
 }
 
 // The sum of a tree's children; none, where the table lacks them.
@@ -258,10 +162,7 @@ pub fn child_count(children: &[u16], shape: Shape, tree: Tree) -> u32
     if children.len() < end {
         return 0;
     }
-    match lower::sum(&children[first..end]) {
-        Summed::Frames(frames) => frames,
-        Summed::TooMany => 0,
-    }
+    lower::sum(&children[first..end]).unwrap_or(0)
 }
 
 // No malformed child in a tree's part. Fails where the table lacks it.
@@ -297,12 +198,5 @@ pub fn trees_settled(children: &[u16], trees: &[u16], cpus: &[u64], shape: Shape
     if cpus.len() < shape.cpus as usize {
         return false;
     }
-    let mut tree: u16 = 0;
-    while tree < n {
-        if !tree_settled(children, trees, cpus, shape, Tree(tree)) {
-            return false;
-        }
-        tree += 1;
-    }
-    true
+    (0..n).all(|tree| tree_settled(children, trees, cpus, shape, Tree(tree)))
 }

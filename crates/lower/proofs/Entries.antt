@@ -1,4 +1,5 @@
 -- A child entry in code: split by shifts and masks, joined again, and what it says by its fields.
+use Rattle.std.specs.Prelude.{Option, Some, None}
 use mathlib.Core.Path.{◌≡◌, refl, sym, ap, ◌∙◌}
 use mathlib.Core.Logic.{◌≢◌}
 use mathlib.Core.List.{List, [], ◌∷◌}
@@ -39,8 +40,8 @@ module _ (f : Fields) where
   flags = f.a is 1 ∷ f.zero is 0 ∷ f.count is 0 ∷ []
 
   -- the entry of split fields
-  abbrev pub said_by : ChildEntry
-  said_by = pick (passes counts) (ChildEntry.Counts f.count) (pick (passes flags) ChildEntry.Flagged ChildEntry.Damaged)
+  abbrev pub said_by : Option ChildEntry
+  said_by = pick (passes counts) (Some (ChildEntry.Counts f.count)) (pick (passes flags) (Some ChildEntry.Flagged) None)
 
 flag_small : (x : ℕ) → (fields_of x).a < 2
 unfolding field split width
@@ -55,11 +56,11 @@ unfolding child_says
 says_fields x = refl
 
 module _ (f : Fields) where
-  pub says_counts : f.zero ≡ 0 → f.a ≡ 0 → f.count ≤ child_frames → ChildEntry.Counts f.count ≡ said_by f
+  pub says_counts : f.zero ≡ 0 → f.a ≡ 0 → f.count ≤ child_frames → Some (ChildEntry.Counts f.count) ≡ said_by f
   says_counts z a k = sym (pick_yes _ _ _ (passes_of (counts f) (a, (z, (omega arith, tt)))))
 
-  pub says_flagged : f.zero ≡ 0 → f.a ≡ 1 → f.count ≡ 0 → ChildEntry.Flagged ≡ said_by f
+  pub says_flagged : f.zero ≡ 0 → f.a ≡ 1 → f.count ≡ 0 → Some ChildEntry.Flagged ≡ said_by f
   says_flagged z a k = sym (pick_no _ _ _ (fails_of (counts f) (λ p. omega (arith, p.0))) ∙ pick_yes _ _ _ (passes_of (flags f) (a, (z, (k, tt)))))
 
-  pub says_damaged : (Passes (counts f) → ⊥) → (Passes (flags f) → ⊥) → ChildEntry.Damaged ≡ said_by f
+  pub says_damaged : (Passes (counts f) → ⊥) → (Passes (flags f) → ⊥) → None ≡ said_by f
   says_damaged p q = sym (pick_no _ _ _ (fails_of (counts f) p) ∙ pick_no _ _ _ (fails_of (flags f) q))

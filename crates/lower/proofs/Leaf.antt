@@ -1,28 +1,24 @@
 -- One word: what the code's masks and counts make of it is what the rules say. Stated over the run's size.
+use Rattle.std.specs.Prelude.{Some, None, Ok, Err}
 use mathlib.Core.Path.{◌≡◌, refl, sym, ap, ◌∙◌}
 use mathlib.Core.Logic.{◌≢◌}
-use mathlib.Core.List.{List}
 use Prim.Native.Nat.{ℕ, suc, ◌+◌, ◌-◌, ◌*◌, ◌/◌, ◌%◌, ◌^◌, ◌≤◌, ◌<◌}
 use native.Mathlib.Decide.{ℕ_discrete}
 use native.Mathlib.Nat.{add-zero, zero-mul, one-mul, mul-suc, zero-mod, mul-div-le, div-add-mod, mul-le-mul_left, mul-lt-mul_of_pos_left, le_of_mul-le-mul_left, lt_of_mul-lt-mul_left}
-use native.Mathlib.Numerals.{add-one}
 use native.Mathlib.Omega.{arith}
 use lib.Pow.{high, ones_lt, ones_split}
 use lib.Bits.{bit_and, bit_or, and_mask}
 use lib.Count.{count_trailing_zeros}
-use lib.ListN.{get_or}
 use borrow.Author.Tests.{ne_eqb}
-use Rattle.laws.specs.Sum.{sum_to}
-use Rattle.laws.specs.Words.{zeros, ones, bits, lowest}
+use Rattle.laws.specs.Words.{ones, bits, lowest}
 use Rattle.laws.proofs.Tests.{pick_no}
-use Rattle.laws.proofs.Sum.{sum_bound}
-use Rattle.laws.proofs.Words.{zeros_le, bits_free, lowest_le, lowest_free, lowest_below, ones_shl, and_ones, bits_and, or_ones, and_not, and_not_ones, trailing_lowest}
-use Rattle.rules.specs.Numbers.{child_words, word_bits}
+use Rattle.laws.proofs.Words.{bits_free, lowest_le, lowest_free, lowest_below, ones_shl, and_ones, bits_and, or_ones, and_not, and_not_ones, trailing_lowest}
+use Rattle.rules.specs.Numbers.{word_bits}
 use Rattle.rules.specs.Blocks.{exponent, run_size}
-use Rattle.rules.specs.Lower.{told, changed, take_run, clear_run, zero_bits}
+use Rattle.rules.specs.Lower.{told, changed, take_run, clear_run}
 use Rattle.rules.proofs.Lower.{take_run_lem, take_none, clear_run_lem}
 use Rattle.rules.proofs.Sizes.{not_below, run_some, run_ends, word_of_lem}
-use Rattle.lower.specs.Types.{Run, Bit, Gave}
+use Rattle.lower.specs.Types.{Run, Fault}
 
 -- ---- a run's size, its ones, and where it begins
 
@@ -67,13 +63,13 @@ module _ (v : Run) (w : ℕ) (fits : w < 2 ^ word_bits) {s o : ℕ} (is : s ≡ 
 
   -- ---- cleared, where every bit is set
 
-  pub run_cleared : (b : ℕ) → b + run_size v ≤ word_bits → bit_and w (mask b) ≡ mask b → clear_run (run_size v) b w ≡ changed Gave.Given (bit_and w ((2 ^ word_bits - 1) - mask b))
+  pub run_cleared : (b : ℕ) → b + run_size v ≤ word_bits → bit_and w (mask b) ≡ mask b → clear_run (run_size v) b w ≡ changed (Ok tt) (bit_and w ((2 ^ word_bits - 1) - mask b))
   run_cleared b l e =
       let h : b + s ≤ word_bits = rw is l in
       let z : bits s b w ≡ 2 ^ s - 1 = bits_and s b w (2 ^ s - 1) (rw (mask_is b h) at e) in
-      rw (mask_is b h, ← is) (clear_run_lem s b w z ∙ ap (changed Gave.Given) (sym (and_not_ones word_bits s b w fits h z)))
+      rw (mask_is b h, ← is) (clear_run_lem s b w z ∙ ap (changed (Ok tt)) (sym (and_not_ones word_bits s b w fits h z)))
 
-  pub run_kept : (b : ℕ) → b + run_size v ≤ word_bits → bit_and w (mask b) ≢ mask b → clear_run (run_size v) b w ≡ told Gave.NotTaken
+  pub run_kept : (b : ℕ) → b + run_size v ≤ word_bits → bit_and w (mask b) ≢ mask b → clear_run (run_size v) b w ≡ told (Err Fault.NotTaken)
   unfolding clear_run
   run_kept b l n =
       let h : b + s ≤ word_bits = rw is l in
@@ -103,7 +99,7 @@ module _ (v : Run) (w : ℕ) (fits : w < 2 ^ word_bits) {s o : ℕ} (is : s ≡ 
     passed_le : p.at ≤ lowest s (word_bits / s) w
     passed_le = not_below (λ l. p.none _ l (lowest_free s (word_bits / s) w (omega (arith, p.within))))
 
-    pub passed_all : word_bits ≤ b → told Bit.Full ≡ take_run (run_size v) w
+    pub passed_all : word_bits ≤ b → told None ≡ take_run (run_size v) w
     passed_all h =
         let l : word_bits / s ≤ p.at = le_of_mul-le-mul_left {m = word_bits / s} {n = p.at} (omega (arith, whole, p.first)) some in
         rw (← is) (sym (take_none s w (omega (arith, passed_le))))
@@ -115,7 +111,7 @@ module _ (v : Run) (w : ℕ) (fits : w < 2 ^ word_bits) {s o : ℕ} (is : s ≡ 
       passed_ends : b + s ≤ word_bits
       passed_ends = omega (arith, whole, p.first, mul-suc s p.at, mul-le-mul_left {m = suc p.at} {n = word_bits / s} s passed_room)
 
-      pub passed_found : bit_and w (mask b) ≡ 0 → changed (Bit.At b) (bit_or w (mask b)) ≡ take_run (run_size v) w
+      pub passed_found : bit_and w (mask b) ≡ 0 → changed (Some b) (bit_or w (mask b)) ≡ take_run (run_size v) w
       passed_found e =
           let z : bits s b w ≡ 0 = bits_and s b w 0 (rw (mask_is b passed_ends) at e ∙ sym (zero-mul (2 ^ b))) in
           let f : bits s (s * p.at) w ≡ 0 = rw (← p.first) z in
@@ -132,25 +128,3 @@ module _ (v : Run) (w : ℕ) (fits : w < 2 ^ word_bits) {s o : ℕ} (is : s ≡ 
           | no q ↦ p.none i (omega arith) e
         ];
       }
-
--- ---- the zero bits of the first k words of child c's field
-
-unfoldable pub zeros_to : List ℕ → ℕ → ℕ → ℕ
-zeros_to ws c k = sum_to k (λ i. zeros word_bits (get_or ws (child_words * c + i) 0))
-
-module _ (ws : List ℕ) (c : ℕ) where
-  pub zeros_none : 0 ≡ zeros_to ws c 0
-  unfolding zeros_to sum_to
-  zeros_none = refl
-
-  pub zeros_more : (k : ℕ) → zeros_to ws c (k + 1) ≡ zeros_to ws c k + zeros word_bits (get_or ws (child_words * c + k) 0)
-  unfolding zeros_to sum_to
-  zeros_more k = rw (add-one k) refl
-
-  pub zeros_all : zeros_to ws c child_words ≡ zero_bits ws c
-  unfolding zeros_to zero_bits
-  zeros_all = refl
-
-  pub zeros_bound : (k : ℕ) → zeros_to ws c k ≤ k * word_bits
-  unfolding zeros_to
-  zeros_bound k = sum_bound k word_bits (λ i. zeros word_bits (get_or ws (child_words * c + i) 0)) (λ i l. zeros_le word_bits (get_or ws (child_words * c + i) 0))

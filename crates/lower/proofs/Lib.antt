@@ -2,4 +2,5 @@ pub mod Tables
 pub mod Entries
 pub mod Children
 pub mod Leaf
+pub mod Sums
 pub mod Searches

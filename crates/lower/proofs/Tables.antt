@@ -28,6 +28,11 @@ module _ {A : Type 0} (f : ℕ → Lowered A) (l : List ℕ) (i : ℕ) where
     unfolding step_in
     step_in_lem h e = ap (wrapped say) e ∙ sym (pick_yes _ _ _ (lt-ltb i (length l) h))
 
+-- a step on an entry that the table has
+pub step_there : {A : Type 0} (f : ℕ → Lowered A) (l : List ℕ) (i : ℕ) (none : A) → i < length l → {o : Outcome A} → o ≡ step_in (λ s. s) none f l i → o ≡ step_at f l i
+unfolding step_in
+step_there f l i none h e = e ∙ pick_yes _ _ _ (lt-ltb i (length l) h)
+
 -- ---- the table afterwards
 
 turned_length : (l : List ℕ) (i : ℕ) (x : Change ℕ) → length (turned l i x) ≡ length l

@@ -5,16 +5,17 @@ use Prim.Native.Nat.{ℕ, ◌+◌, ◌-◌, ◌*◌, ◌≤◌, ◌<◌}
 use native.Mathlib.Omega.{arith}
 use native.Mathlib.Nat.{sub-zero}
 use lib.ListN.{length}
+use Rattle.std.specs.Prelude.{Result, Ok, Err}
 use Rattle.laws.specs.Tests.{Passes}
 use Rattle.laws.specs.Tables.{outcome}
 use Rattle.laws.proofs.Tests.{passes_of}
 use Rattle.rules.specs.Numbers.{child_words}
 use Rattle.rules.specs.Conversions.{huge, tree}
 use Rattle.rules.specs.Zone.{Zone}
+use Rattle.rules.specs.Answers.{answer_of}
 use Rattle.rules.specs.Ranges.{opening_in}
 use Rattle.rules.specs.Open.{opening, open_step}
 use Rattle.rules.specs.Step.{Ran, follow}
-use Rattle.lower.specs.declared.Recounted.{Recounted}
 use Rattle.lower.specs.Steps.{recount_in}
 use Rattle.entries.specs.Sizes.{huge_of}
 use Rattle.places.specs.Shapes.{shape_of}
@@ -23,9 +24,9 @@ use Rattle.calls.specs.declared.Way.{Way}
 use Rattle.calls.specs.Results.{zone, result_of, done, ran_to, checked, way_of, went_to, WentOn}
 use Rattle.calls.proofs.Opened.{checked_in, checked_open}
 use Rattle.calls.proofs.Runs.{stepped, way_goes}
-use Rattle.opening.specs.Types.{Opening, Record, Answer, Shape, Checked}
+use Rattle.opening.specs.Types.{Fault, Opening, Record, Answer, Shape}
 use Rattle.opening.specs.Opens.{open_at}
-use Rattle.opening.proofs.Stages.{child_zone, child_none, field_none, child_damaged, child_next, child_last, children_ready, children_aside}
+use Rattle.opening.proofs.Stages.{child_zone, child_fails, child_next, child_last, children_ready, children_aside}
 use Rattle.opening.proofs.Steps.{step_acts}
 
 module _ (h w t p : List ℕ) (fuel : ℕ) where
@@ -34,7 +35,7 @@ module _ (h w t p : List ℕ) (fuel : ℕ) where
   at_child_lem c i k = follow open_step (fuel - k) k (opening (Opening.Children (huge i))) (zone h w c t p)
 
   -- child i is recounted, and the children are m afterwards; the checks were made on j children
-  module _ (s : Shape) (j : ℕ) (c m : List ℕ) (i k : ℕ) (e : checked h (length w) j (length t) (length p) ≡ Checked.Zone s) (l : length c ≡ j) {n : ℕ} (b : n ≡ huge_of s.size) (d : i < n) (f : k < fuel) {x : Recounted} (o : outcome x m ≡ recount_in c w i) where
+  module _ (s : Shape) (j : ℕ) (c m : List ℕ) (i k : ℕ) (e : checked h (length w) j (length t) (length p) ≡ Ok s) (l : length c ≡ j) {n : ℕ} (b : n ≡ huge_of s.size) (d : i < n) (f : k < fuel) {x : Result Unit Fault} (o : outcome x m ≡ recount_in c w i) where
     abbrev stage : Opening
     stage = Opening.Children (huge i)
 
@@ -42,7 +43,7 @@ module _ (h w t p : List ℕ) (fuel : ℕ) where
     abbrev Ends : Way → Type 0
     Ends y = went_to open_step fuel y (zone h w m t p) ≡ at_child_lem c i k
 
-    checks : checked_in h w c t p ≡ Checked.Zone s
+    checks : checked_in h w c t p ≡ Ok s
     checks = ap (λ a. checked h (length w) a (length t) (length p)) l ∙ e
 
     in_range : Passes (opening_in (shape_of s) stage)
@@ -62,19 +63,13 @@ module _ (h w t p : List ℕ) (fuel : ℕ) where
       child_way : {y : Way} → y ≡ way_of a (k + 1) → Ends y
       child_way q = ap (λ y. went_to open_step fuel y (zone h w m t p)) q ∙ way_goes open_step fuel (k + 1) a (zone h w m t p) ∙ child_goes
 
-    pub none_ends : {y : Way} → y ≡ way_of Answer.BadRecord (k + 1) → x ≡ Recounted.NoChild → Ends y
-    none_ends q g = child_way (child_none s (huge i) w c m ready o g) q
+    pub fails_ends : {f : Fault} {a : Answer} {y : Way} → x ≡ Err f → a ≡ answer_of f → y ≡ way_of a (k + 1) → Ends y
+    fails_ends g a q = child_way (child_fails s (huge i) w c m ready o g a) q
 
-    pub no_field_ends : {y : Way} → y ≡ way_of Answer.BadRecord (k + 1) → x ≡ Recounted.NoField → Ends y
-    no_field_ends q g = child_way (field_none s (huge i) w c m ready o g) q
-
-    pub damaged_ends : {y : Way} → y ≡ way_of Answer.Damaged (k + 1) → x ≡ Recounted.Damaged → Ends y
-    damaged_ends q g = child_way (child_damaged s (huge i) w c m ready o g) q
-
-    pub goes_on_lem : x ≡ Recounted.Stored → i + 1 < n → at_child_lem m (i + 1) (k + 1) ≡ at_child_lem c i k
+    pub goes_on_lem : x ≡ Ok tt → i + 1 < n → at_child_lem m (i + 1) (k + 1) ≡ at_child_lem c i k
     goes_on_lem g u = child_goes (child_next s (huge i) w c m ready o g b u refl)
 
-    pub goes_to_trees : x ≡ Recounted.Stored → n ≤ i + 1 → follow open_step (fuel - (k + 1)) (k + 1) (opening (Opening.Trees (tree 0))) (zone h w m t p) ≡ at_child_lem c i k
+    pub goes_to_trees : x ≡ Ok tt → n ≤ i + 1 → follow open_step (fuel - (k + 1)) (k + 1) (opening (Opening.Trees (tree 0))) (zone h w m t p) ≡ at_child_lem c i k
     goes_to_trees g u = child_goes (child_last s (huge i) w c m ready o g b u refl)
 
 -- the run of a record that is x

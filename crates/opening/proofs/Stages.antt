@@ -6,6 +6,7 @@ use Prim.Native.Nat.{ℕ, ◌+◌, ◌*◌, ◌≤◌, ◌<◌}
 use native.Mathlib.Omega.{arith}
 use lib.ListN.{length, get_or, set}
 use borrow.Author.Tests.{lt-ltb, le-leb}
+use Rattle.std.specs.Prelude.{Option, Some, None, Result, Ok, Err}
 use Rattle.laws.specs.Tests.{Passes}
 use Rattle.laws.specs.Tables.{Outcome, outcome}
 use Rattle.laws.proofs.Tests.{pick_elim, pick_yes}
@@ -16,8 +17,9 @@ use Rattle.rules.specs.declared.ChildEntry.{ChildEntry}
 use Rattle.rules.specs.Numbers.{child_frames, child_words, Shape as Rules, per_tree, trees_of, children_of, capacity}
 use Rattle.rules.specs.Conversions.{huge, tree}
 use Rattle.rules.specs.Entries.{tree_word, cpu_word}
-use Rattle.rules.specs.Lower.{told, changed, child_says, by_child, well_formed, count_in, recount, zero_bits, part_sum}
+use Rattle.rules.specs.Lower.{Lowered, told, changed, child_says, by_child, well_formed, count_in, recount, zero_bits, part_sum}
 use Rattle.rules.specs.Zone.{Zone, child_part, stored}
+use Rattle.rules.specs.Answers.{answer_of}
 use Rattle.rules.specs.Plan.{Plan, refuse, Refusal, on, guarded}
 use Rattle.rules.specs.Ranges.{opening_in}
 use Rattle.rules.specs.Create as Create
@@ -25,21 +27,19 @@ use Rattle.rules.specs.Open.{child_at, zeros_at, child_count, opening, opening_s
 use Rattle.rules.proofs.Fields.{count_few}
 use Rattle.rules.proofs.Fresh.{child_at_lem}
 use Rattle.rules.proofs.Phases.{zeros_at_lem}
-use Rattle.lower.specs.declared.Recounted.{Recounted}
 use Rattle.lower.specs.Tables.{turned, step_at}
 use Rattle.lower.specs.Steps.{fields_in, recounted, recount_in}
-use Rattle.entries.specs.declared.Added.{Added}
 use Rattle.entries.specs.Sizes as Sizes
 use Rattle.entries.specs.Steps.{store_count_in, stored_in}
 use Rattle.places.specs.Shapes.{shape_of}
 use Rattle.places.proofs.Ranges.{trees_same, capacity_same}
-use Rattle.calls.specs.Results.{zone, Result, result_of, done, Fits}
+use Rattle.calls.specs.Results.{zone, Result as Called, result_of, done, Fits}
 use Rattle.calls.proofs.Opened.{stores_nothing, stands, passed_by}
-use Rattle.calls.proofs.Stored.{entry_stored, count_stored, stored_said, added_said, added_sound, next_entry, next_table}
+use Rattle.calls.proofs.Stored.{entry_stored, count_stored, stored_said, next_entry, next_table}
 use Rattle.looks.specs.Entries.{child_count_in}
 use Rattle.looks.specs.Looks.{part_formed_in}
 use Rattle.looks.proofs.Entries.{part_ends}
-use Rattle.opening.specs.Types.{Opening, Answer, Stored, Shape}
+use Rattle.opening.specs.Types.{Fault, Opening, Answer, Shape}
 use Rattle.opening.specs.Opens.{open_at}
 
 -- ---- a stage whose entries are well-formed, and one with a malformed child
@@ -71,7 +71,7 @@ cpu_zone l = zone [] [] [] [] l
 -- ---- each stage, on a table l that has its entry; the table is m afterwards
 
 -- child i, with the words w
-module _ (s : Shape) (i : Huge) (w l m : List ℕ) (k : (child_words * Sizes.huge_of s.size ≡ length w) × (Sizes.huge_of s.size ≡ length l) × (i.0 < Sizes.huge_of s.size)) {x : Recounted} (o : outcome x m ≡ recount_in l w i.0) where
+module _ (s : Shape) (i : Huge) (w l m : List ℕ) (k : (child_words * Sizes.huge_of s.size ≡ length w) × (Sizes.huge_of s.size ≡ length l) × (i.0 < Sizes.huge_of s.size)) {x : Result Unit Fault} (o : outcome x m ≡ recount_in l w i.0) where
   abbrev e : ℕ
   e = get_or l i.0 0
 
@@ -79,29 +79,30 @@ module _ (s : Shape) (i : Huge) (w l m : List ℕ) (k : (child_words * Sizes.hug
   v = recount (zero_bits w i.0) e
 
   -- what was said of entry e, with the table afterwards
-  abbrev Tells : Recounted → List ℕ → Type 0
-  Tells Recounted.Stored a = (well_formed e ≡ true) × (a ≡ set l i.0 v)
-  Tells Recounted.Damaged a = (well_formed e ≡ false) × (a ≡ l)
-  Tells Recounted.NoChild a = ⊥
-  Tells Recounted.NoField a = ⊥
+  abbrev Tells : Result Unit Fault → List ℕ → Type 0
+  Tells (Ok tt) a = (well_formed e ≡ true) × (a ≡ set l i.0 v)
+  Tells (Err f) a = (f ≡ Fault.Damaged) × (well_formed e ≡ false) × (a ≡ l)
 
-  abbrev TellsOf : Outcome Recounted → Type 0
+  abbrev TellsOf : Outcome (Result Unit Fault) → Type 0
   TellsOf q = Tells q.said q.table
+
+  abbrev stores : Lowered (Result Unit Fault)
+  stores = changed (Ok tt) v
 
   entry_tells : TellsOf (step_at (recounted (zero_bits w i.0)) l i.0)
   unfolding step_at recounted turned by_child well_formed
   entry_tells = go (child_says e) refl
     where
-      go : (d : ChildEntry) → child_says e ≡ d → Tells (by_child d (told Recounted.Damaged) (λ n. changed Recounted.Stored v) (changed Recounted.Stored v)).said (turned l i.0 (by_child d (told Recounted.Damaged) (λ n. changed Recounted.Stored v) (changed Recounted.Stored v)).change)
-      go ChildEntry.Damaged q = (ap (λ y. by_child y false (λ n. true) true) q, refl)
-      go (ChildEntry.Counts n) q = (ap (λ y. by_child y false (λ n. true) true) q, refl)
-      go ChildEntry.Flagged q = (ap (λ y. by_child y false (λ n. true) true) q, refl)
+      go : (d : Option ChildEntry) → child_says e ≡ d → Tells (by_child d (told (Err Fault.Damaged)) (λ n. stores) stores).said (turned l i.0 (by_child d (told (Err Fault.Damaged)) (λ n. stores) stores).change)
+      go None q = (refl, ap (λ y. by_child y false (λ n. true) true) q, refl)
+      go (Some (ChildEntry.Counts n)) q = (ap (λ y. by_child y false (λ n. true) true) q, refl)
+      go (Some ChildEntry.Flagged) q = (ap (λ y. by_child y false (λ n. true) true) q, refl)
 
   entry_there : recount_in l w i.0 ≡ step_at (recounted (zero_bits w i.0)) l i.0
   unfolding recount_in
   entry_there = pick_yes _ _ _ (lt-ltb i.0 (length l) (omega (arith, k.1, k.2))) ∙ pick_yes _ _ _ (lt-ltb i.0 (fields_in w) (omega (arith, k.0, k.2)))
 
-  tells : {y : Recounted} → x ≡ y → Tells y m
+  tells : {y : Result Unit Fault} → x ≡ y → Tells y m
   tells q = subst (λ y. Tells y m) q (subst TellsOf (sym (o ∙ entry_there)) entry_tells)
 
   -- the entry is the rules' own
@@ -118,16 +119,14 @@ module _ (s : Shape) (i : Huge) (w l m : List ℕ) (k : (child_words * Sizes.hug
   abbrev Recounts : Answer → Type 0
   Recounts r = result_of r (child_zone w m) ≡ done (child_zone w l) (open_at (shape_of s) (child_zone w l) (Opening.Children i))
 
-  pub child_none : {r : Answer} → x ≡ Recounted.NoChild → Recounts r
-  child_none q = absurd (tells q)
+  -- the table has the child and its field: it was malformed
+  pub child_fails : {f : Fault} {r : Answer} → x ≡ Err f → r ≡ answer_of f → Recounts r
+  child_fails q a =
+      let d = tells q in
+      ap₂ (λ y u. result_of y (child_zone w u)) (a ∙ ap answer_of d.0) d.2
+      ∙ stage_damaged (shape_of s) (child_zone w l) (Opening.Children i) (formed_same ∙ d.1)
 
-  pub field_none : {r : Answer} → x ≡ Recounted.NoField → Recounts r
-  field_none q = absurd (tells q)
-
-  pub child_damaged : x ≡ Recounted.Damaged → Recounts Answer.Damaged
-  child_damaged q = let d = tells q in ap (λ a. result_of Answer.Damaged (child_zone w a)) d.1 ∙ stage_damaged (shape_of s) (child_zone w l) (Opening.Children i) (formed_same ∙ d.0)
-
-  module _ (q : x ≡ Recounted.Stored) {n : ℕ} (b : n ≡ Sizes.huge_of s.size) {r : Answer} where
+  module _ (q : x ≡ Ok tt) {n : ℕ} (b : n ≡ Sizes.huge_of s.size) {r : Answer} where
     child_made : r ≡ (open_stage (shape_of s) (child_zone w l) (Opening.Children i)).answer → Recounts r
     unfolding open_stage stored
     child_made a =
@@ -161,28 +160,25 @@ module _ (s : Shape) (t : Tree) (c l : List ℕ) (k : (Sizes.huge_of s.size ≡ 
   unfolding child_count part_sum
   count_in_lem = omega (arith, sum_bound (children_of (shape_of s) t.0) child_frames (λ j. count_in (get_or (child_part (shape_of s) (tree_zone c l) t) j 0)) (λ j h. count_few (get_or (child_part (shape_of s) (tree_zone c l) t) j 0)))
 
-  module _ (a : b ≡ true) (m : List ℕ) {x : Added} {n : ℕ} (d : n ≡ child_count_in s t c) (o : outcome x m ≡ store_count_in s.size t n l) where
+  module _ (a : b ≡ true) (m : List ℕ) {x : Result Unit Fault} {n : ℕ} (d : n ≡ child_count_in s t c) (o : outcome x m ≡ store_count_in s.size t n l) where
     count_same : n ≡ child_count (shape_of s) (tree_zone c l) t
     unfolding child_count_in child_count
     count_same = d ∙ pick_yes _ _ _ (le-leb _ (length c) part_there)
 
-    tree_stored : outcome x m ≡ outcome Added.Added (set l t.0 (tree_word 0 (child_count (shape_of s) (tree_zone c l) t)))
+    tree_stored : outcome x m ≡ outcome (Ok tt) (set l t.0 (tree_word 0 (child_count (shape_of s) (tree_zone c l) t)))
     tree_stored = (rw count_same at o) ∙ count_stored s.size t l (omega (arith, k.1, k.2)) (child_count (shape_of s) (tree_zone c l) t) (omega (arith, count_in_lem, capacity_same s t.0))
 
     abbrev Sums : Answer → Type 0
     Sums r = result_of r (tree_zone c m) ≡ done (tree_zone c l) (open_at (shape_of s) (tree_zone c l) (Opening.Trees t))
 
-    pub tree_none : {r : Answer} → x ≡ Added.NoTree → Sums r
-    tree_none q = added_said tree_stored q
-
-    pub tree_sound : {r : Answer} → x ≡ Added.Damaged → Sums r
-    tree_sound q = added_sound tree_stored q
+    pub tree_none : {f : Fault} {r : Answer} → x ≡ Err f → Sums r
+    tree_none q = stored_said tree_stored q
 
     module _ {j : ℕ} (e : j ≡ trees_of (Sizes.shape_of s.size)) {r : Answer} where
       tree_made : r ≡ (open_stage (shape_of s) (tree_zone c l) (Opening.Trees t)).answer → Sums r
       unfolding open_stage stored
       tree_made q =
-          ap₂ (λ y (u : Outcome Added). result_of y (tree_zone c u.table)) q tree_stored
+          ap₂ (λ y (u : Outcome (Result Unit Fault)). result_of y (tree_zone c u.table)) q tree_stored
           ∙ sym (ap (done (tree_zone c l)) (stage_sound (shape_of s) (tree_zone c l) (Opening.Trees t) (sym part_same ∙ a)))
 
       pub tree_next : t.0 + 1 < j → r ≡ opening (Opening.Trees (tree (t.0 + 1))) → Sums r
@@ -194,16 +190,16 @@ module _ (s : Shape) (t : Tree) (c l : List ℕ) (k : (Sizes.huge_of s.size ≡ 
       tree_last h q = tree_made (next_table opening t.0 (trees_of (shape_of s)) (λ i. Opening.Trees (tree i)) (Opening.Cpus 0) (rw (e ∙ trees_same s) at h) q)
 
 -- CPU j
-module _ (s : Shape) (j : ℕ) (l m : List ℕ) (h : j < length l) {x : Stored} (o : outcome x m ≡ stored_in j 0 l) where
+module _ (s : Shape) (j : ℕ) (l m : List ℕ) (h : j < length l) {x : Result Unit Fault} (o : outcome x m ≡ stored_in j 0 l) where
   abbrev Forgets : Answer → Type 0
   Forgets r = result_of r (cpu_zone m) ≡ done (cpu_zone l) (open_at (shape_of s) (cpu_zone l) (Opening.Cpus j))
 
-  pub cpu_none : {r : Answer} → x ≡ Stored.NoEntry → Forgets r
+  pub cpu_none : {f : Fault} {r : Answer} → x ≡ Err f → Forgets r
   cpu_none q = stored_said (o ∙ entry_stored j l h 0) q
 
   cpu_made : {r : Answer} → r ≡ (open_stage (shape_of s) (cpu_zone l) (Opening.Cpus j)).answer → Forgets r
   unfolding open_stage opening_sound stored cpu_word
-  cpu_made q = ap₂ (λ y (u : Outcome Stored). result_of y (cpu_zone u.table)) q (o ∙ entry_stored j l h 0) ∙ sym (ap (done (cpu_zone l)) (stage_sound (shape_of s) (cpu_zone l) (Opening.Cpus j) refl))
+  cpu_made q = ap₂ (λ y (u : Outcome (Result Unit Fault)). result_of y (cpu_zone u.table)) q (o ∙ entry_stored j l h 0) ∙ sym (ap (done (cpu_zone l)) (stage_sound (shape_of s) (cpu_zone l) (Opening.Cpus j) refl))
 
   pub cpu_next : {r : Answer} → j + 1 < s.cpus → r ≡ opening (Opening.Cpus (j + 1)) → Forgets r
   unfolding open_stage
@@ -233,13 +229,13 @@ module _ (w c t p : List ℕ) (s : Shape) where
   whole = zone [] w c t p
 
   -- with the others put back
-  abbrev with_children : Result → Result
+  abbrev with_children : Called → Called
   with_children x = result_of x.answer (zone [] w x.zone.children t p)
 
-  abbrev with_trees : Result → Result
+  abbrev with_trees : Called → Called
   with_trees x = result_of x.answer (zone [] w c x.zone.trees p)
 
-  abbrev with_cpus : Result → Result
+  abbrev with_cpus : Called → Called
   with_cpus x = result_of x.answer (zone [] w c t x.zone.cpus)
 
   module _ {stage : Opening} {r : Answer} {m : List ℕ} where
@@ -257,7 +253,7 @@ module _ (w c t p : List ℕ) (s : Shape) where
 
   -- and so does the header
   module _ (h : List ℕ) where
-    abbrev with_header : Result → Result
+    abbrev with_header : Called → Called
     with_header x = result_of x.answer (zone h x.zone.words x.zone.children x.zone.trees x.zone.cpus)
 
     header_kept : (stage : Opening) → with_header (done whole (open_at (shape_of s) whole stage)) ≡ done (zone h w c t p) (open_at (shape_of s) (zone h w c t p) stage)

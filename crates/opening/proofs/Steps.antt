@@ -4,6 +4,7 @@ use mathlib.Core.Bool.{Bool, true, false, not, ◌&&◌}
 use mathlib.Core.List.{List, [], ◌∷◌}
 use Prim.Native.Nat.{ℕ}
 use native.Mathlib.Omega.{arith}
+use Rattle.std.specs.Prelude.{Result, Ok, Err}
 use Rattle.laws.specs.Tests.{pick, passes, Passes}
 use Rattle.laws.specs.Tables.{Outcome, outcome, wrapped}
 use Rattle.laws.proofs.Tests.{all_passed}
@@ -24,14 +25,14 @@ use Rattle.calls.proofs.Stored.{entry_stored}
 use Rattle.looks.specs.Looks.{children_formed_in, flags_empty_in}
 use Rattle.looks.proofs.Loops.{first_fails, first_passes}
 use Rattle.looks.proofs.Zones.{zone_formed, zone_flags}
-use Rattle.opening.specs.Types.{Opening, Record, Answer, Size, Stored, Shape, Checked, Openable}
+use Rattle.opening.specs.Types.{Fault, Opening, Record, Answer, Size, Zoned, Shape}
 use Rattle.opening.specs.Opens.{start_as, start_in, open_at}
 use Rattle.opening.proofs.Refusals.{shape_by, openable_by, Ready, openable_refused, openable_cut, openable_closed}
 use Rattle.opening.proofs.Stages.{header_aside}
 
 -- the header's store, whatever it said
-pub started : (m : Size) (s : Opening) (l : List ℕ) {x y : Stored} {l' : List ℕ} {r : Answer} → outcome x l' ≡ stored_in 0 (header_word running (huge_of m)) l → x ≡ y → r ≡ start_as s y → outcome r l' ≡ start_in m s l
-started m s l {l' = l'} o q a = ap (λ v. outcome v l') (a ∙ ap (start_as s) (sym q)) ∙ ap (λ (v : Outcome Stored). wrapped (start_as s) v) o
+pub started : (m : Size) (s : Opening) (l : List ℕ) {x y : Result Unit Fault} {l' : List ℕ} {r : Answer} → outcome x l' ≡ stored_in 0 (header_word running (huge_of m)) l → x ≡ y → r ≡ start_as s y → outcome r l' ≡ start_in m s l
+started m s l {l' = l'} o q a = ap (λ v. outcome v l') (a ∙ ap (start_as s) (sym q)) ∙ ap (λ (v : Outcome (Result Unit Fault)). wrapped (start_as s) v) o
 
 module _ (h w c t p : List ℕ) where
   abbrev z : Zone
@@ -55,7 +56,7 @@ module _ (h w c t p : List ℕ) where
   abbrev opens : Plan
   opens = guarded (damaged (shape_of z) (is_running (header_of z)) ∷ []) (starts (shape_of z) (is_running (header_of z)))
 
-  pub open_refused : {a : Answer} → openable_by h w c t p ≡ Openable.Refused a → result_of a z ≡ done z (open_zone z)
+  pub open_refused : {a : Answer} → openable_by h w c t p ≡ Err a → result_of a z ≡ done z (open_zone z)
   unfolding open_zone open_sound guarded
   open_refused e = stores_nothing z (openable_refused h w c t p e opens)
 
@@ -74,7 +75,7 @@ module _ (h w c t p : List ℕ) where
     open_starts : true ≡ sound (shape_in m) b → {r : Answer} {h' : List ℕ} → outcome r h' ≡ start_in m (stage_by b) h → result_of r (zone h' w c t p) ≡ done z (open_zone z)
     unfolding guarded stored
     open_starts q o =
-        ap (λ (v : Outcome Answer). result_of v.said (zone v.table w c t p)) (o ∙ ap (λ (v : Outcome Stored). wrapped (start_as (stage_by b)) v) (entry_stored 0 h (omega (arith, k.4)) (header_word running (huge_of m))))
+        ap (λ (v : Outcome Answer). result_of v.said (zone v.table w c t p)) (o ∙ ap (λ (v : Outcome (Result Unit Fault)). wrapped (start_as (stage_by b)) v) (entry_stored 0 h (omega (arith, k.4)) (header_word running (huge_of m))))
         ∙ sym (ap (done z) (ready_opens ∙ passed_by (damaged (shape_in m) b) [] (starts (shape_in m) b) (ap not (sym q))))
 
     -- as the code looks at the children
@@ -90,7 +91,7 @@ module _ (h w c t p : List ℕ) where
 
   -- a zone that was cut off, and one that was closed
   module _ {m : Size} {r : Bool} where
-    module _ (e : openable_by h w c t p ≡ Openable.Cut m) (a : r ≡ children_formed_in c) where
+    module _ (e : openable_by h w c t p ≡ Ok (Zoned.Running m)) (a : r ≡ children_formed_in c) where
       cut : Ready h w c t p m true
       cut = openable_cut h w c t p e
 
@@ -109,7 +110,7 @@ module _ (h w c t p : List ℕ) where
         unfolding pick
         cut_starts f = open_starts m true cut (sym f ∙ cut_sound)
 
-    module _ (e : openable_by h w c t p ≡ Openable.Closed m) (a : r ≡ children_formed_in c) where
+    module _ (e : openable_by h w c t p ≡ Ok (Zoned.Clean m)) (a : r ≡ children_formed_in c) where
       closed : Ready h w c t p m false
       closed = openable_closed h w c t p e
 
@@ -123,18 +124,18 @@ module _ (h w c t p : List ℕ) where
   -- ---- a later step
 
   -- what a stage in range may take as given
-  pub stage_ready : {s : Shape} → checked_in h w c t p ≡ Checked.Zone s → (stage : Opening) {b : Bool} → b ≡ passes (opening_in (Shapes.shape_of s) stage) → b ≡ true → Fits s w c t p × Passes (opening_in (Shapes.shape_of s) stage)
+  pub stage_ready : {s : Shape} → checked_in h w c t p ≡ Ok s → (stage : Opening) {b : Bool} → b ≡ passes (opening_in (Shapes.shape_of s) stage) → b ≡ true → Fits s w c t p × Passes (opening_in (Shapes.shape_of s) stage)
   stage_ready {s} e stage d b = ((checked_open h w c t p e).2, all_passed (opening_in (Shapes.shape_of s) stage) (sym d ∙ b))
 
   module _ (r : Record) where
     abbrev refusals : Rules → Record → List Refusal
     refusals i x = unless (open_range i x) Answer.BadRecord ∷ on (not (open_step_sound i z x)) Answer.Damaged ∷ []
 
-    pub step_refused : {a : Answer} → checked_in h w c t p ≡ Checked.Refused a → result_of a z ≡ done z (open_step z r)
+    pub step_refused : {a : Answer} → checked_in h w c t p ≡ Err a → result_of a z ≡ done z (open_step z r)
     unfolding open_step
     step_refused e = stores_nothing z (checked_refused h w c t p e (refusals (shape_of z) r) (open_act (shape_of z) z r))
 
-    module _ {s : Shape} (e : checked_in h w c t p ≡ Checked.Zone s) {x : Record} (q : r ≡ x) where
+    module _ {s : Shape} (e : checked_in h w c t p ≡ Ok s) {x : Record} (q : r ≡ x) where
       abbrev g : Rules
       g = Shapes.shape_of s
 
@@ -147,7 +148,7 @@ module _ (h w c t p : List ℕ) where
       pub step_out : passes (open_range g x) ≡ false → result_of Answer.BadRecord z ≡ done z (open_step z r)
       step_out b = stores_nothing z (step_open ∙ stands (unless (open_range g x) Answer.BadRecord) (on (not (open_step_sound g z x)) Answer.Damaged ∷ []) (open_act g z x) (ap not b))
 
-    pub step_acts : {s : Shape} → checked_in h w c t p ≡ Checked.Zone s → {stage : Opening} → r ≡ Record.Open stage → {b : Bool} → b ≡ passes (opening_in (Shapes.shape_of s) stage) → b ≡ true → {a : Answer} {w' c' t' p' : List ℕ}
+    pub step_acts : {s : Shape} → checked_in h w c t p ≡ Ok s → {stage : Opening} → r ≡ Record.Open stage → {b : Bool} → b ≡ passes (opening_in (Shapes.shape_of s) stage) → b ≡ true → {a : Answer} {w' c' t' p' : List ℕ}
         → result_of a (zone [] w' c' t' p') ≡ done (zone [] w c t p) (open_at (Shapes.shape_of s) (zone [] w c t p) stage) → result_of a (zone h w' c' t' p') ≡ done z (open_step z r)
     unfolding open_range open_step_sound open_act
     step_acts {s} e {stage} q d b o =

@@ -1,5 +1,5 @@
 -- What open refuses first, its first store, and a later step of it on an open zone.
-use Rattle.std.specs.Prelude.{not, List, [], ◌∷◌, ℕ}
+use Rattle.std.specs.Prelude.{not, List, [], ◌∷◌, ℕ, Result, Ok, Err}
 use Rattle.laws.specs.Tests.{pick, passes}
 use Rattle.laws.specs.Tables.{Outcome, wrapped}
 use Rattle.rules.specs.Numbers.{Shape as Rules}
@@ -9,21 +9,20 @@ use Rattle.rules.specs.Plan.{Plan, on, guarded}
 use Rattle.rules.specs.Open.{opening_sound, open_stage}
 use Rattle.entries.specs.Sizes.{huge_of, zoned_in, lengths_of}
 use Rattle.entries.specs.Steps.{stored_in}
-use Rattle.opening.specs.Types.{Opening, Record, Answer, Size, Stored, Zoned, Openable}
+use Rattle.opening.specs.Types.{Fault, Opening, Record, Answer, Size, Zoned}
 
 -- tables of lengths w, c, t, p
-unfoldable pub openable_as : Zoned → ℕ → ℕ → ℕ → ℕ → Openable
-openable_as Zoned.NoHeader w c t p = Openable.Refused Answer.BadBuffers
-openable_as Zoned.NotAZone w c t p = Openable.Refused Answer.NotAZone
-openable_as (Zoned.Running m) w c t p = pick (passes (lengths_of m w c t p)) (Openable.Cut m) (Openable.Refused Answer.BadBuffers)
-openable_as (Zoned.Clean m) w c t p = pick (passes (lengths_of m w c t p)) (Openable.Closed m) (Openable.Refused Answer.BadBuffers)
+unfoldable pub openable_as : Result Zoned Answer → ℕ → ℕ → ℕ → ℕ → Result Zoned Answer
+openable_as (Err a) w c t p = Err a
+openable_as (Ok (Zoned.Running m)) w c t p = pick (passes (lengths_of m w c t p)) (Ok (Zoned.Running m)) (Err Answer.BadBuffers)
+openable_as (Ok (Zoned.Clean m)) w c t p = pick (passes (lengths_of m w c t p)) (Ok (Zoned.Clean m)) (Err Answer.BadBuffers)
 
-abbrev pub openable_in : List ℕ → ℕ → ℕ → ℕ → ℕ → Openable
+abbrev pub openable_in : List ℕ → ℕ → ℕ → ℕ → ℕ → Result Zoned Answer
 openable_in h = openable_as (zoned_in h)
 
-abbrev pub start_as : Opening → Stored → Answer
-start_as s Stored.Stored = Answer.UnderWay (Record.Open s)
-start_as s Stored.NoEntry = Answer.BadBuffers
+abbrev pub start_as : Opening → Result Unit Fault → Answer
+start_as s (Ok tt) = Answer.UnderWay (Record.Open s)
+start_as s (Err f) = Answer.BadBuffers
 
 abbrev pub start_in : Size → Opening → List ℕ → Outcome Answer
 start_in m s l = wrapped (start_as s) (stored_in 0 (header_word running (huge_of m)) l)

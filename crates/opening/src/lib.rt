@@ -2,7 +2,7 @@
 // One store a step; the first makes all checks. Words and children are read and stored by the lower level alone.
 #![tactic(auto)]
 
-ghost use Rattle.std.specs.Prelude.{◌≡◌, [], ◌*◌, ◌-◌, ◌<◌, max, length};
+ghost use Rattle.std.specs.Prelude.{◌≡◌, [], ◌*◌, ◌-◌, ◌<◌, max, length, Ok};
 ghost use Rattle.laws.specs.Tests.{Passes};
 ghost use Rattle.laws.specs.Tables.{outcome};
 ghost use Rattle.rules.specs.Numbers.{child_words, trees_of};
@@ -14,40 +14,30 @@ ghost use Rattle.places.specs.Shapes.{shape_of};
 ghost use Rattle.calls.specs.Results.{zone, result_of, done, ran_to, checked, Fits, WentOn};
 ghost use Rattle.opening.specs.Opens.{openable_in, start_in, open_at};
 
-use calls::{Checked, Ended, Next, Way};
-use entries::{Added, Size, Stored, Zoned};
-use lower::Recounted;
+use calls::{Ended, Way};
+use entries::{Size, Zoned};
 use places::Shape;
 use rules::{Answer, Frame, Huge, Opening, Record, Tree};
 
-// A zone that was cut off, one that was closed, or the refusal.
-#[derive(Clone, Copy)]
-enum Openable {
-    Cut(Size),
-    Closed(Size),
-    Refused(Answer),
-}
-
-// What open refuses first: 8 for the header slice, 9, 8.
-fn check(header: &[u64], words: usize, children: usize, trees: usize, cpus: usize) -> Openable
+// What open refuses first: 8 for the header slice, 9, 8. A zone that the header says is running was cut off.
+fn check(
+    header: &[u64],
+    words: usize,
+    children: usize,
+    trees: usize,
+    cpus: usize,
+) -> Result<Zoned, Answer>
     ensures { result ≡ openable_in header.now words children trees cpus }
 {
-    match entries::zone_says(header) {
-        Zoned::NoHeader => Openable::Refused(Answer::BadBuffers),
-        Zoned::NotAZone => Openable::Refused(Answer::NotAZone),
-        Zoned::Running(size) => {
-            if entries::lengths_fit(size, words, children, trees, cpus) {
-                return Openable::Cut(size);
-            }
-            Openable::Refused(Answer::BadBuffers)
-        }
-        Zoned::Clean(size) => {
-            if entries::lengths_fit(size, words, children, trees, cpus) {
-                return Openable::Closed(size);
-            }
-            Openable::Refused(Answer::BadBuffers)
-        }
+    let zoned = entries::zone_says(header)?;
+    let size = match zoned {
+        Zoned::Running(size) => size,
+        Zoned::Clean(size) => size,
+    };
+    if entries::lengths_fit(size, words, children, trees, cpus) {
+        return Ok(zoned);
     }
+    Err(Answer::BadBuffers)
 }
 
 fn opening(stage: Opening) -> Answer
@@ -61,8 +51,8 @@ fn start(header: &mut [u64], size: Size, stage: Opening) -> Answer
     ensures { outcome result header.new ≡ start_in size stage header.old }
 {
     match entries::store_running(header, size) {
-        Stored::Stored => opening(stage),
-        Stored::NoEntry => Answer::BadBuffers,
+        Ok(()) => opening(stage),
+        Err(_) => Answer::BadBuffers,
     }
 }
 
@@ -77,8 +67,8 @@ pub fn open(
     ensures { result_of result (zone header.new words.now children.now trees.now cpus.now) ≡ done (zone header.old words.now children.now trees.now cpus.now) (open_zone (zone header.old words.now children.now trees.now cpus.now)) }
 {
     match check(header, words.len(), children.len(), trees.len(), cpus.len()) {
-        Openable::Refused(answer) => answer,
-        Openable::Cut(size) => {
+        Err(answer) => answer,
+        Ok(Zoned::Running(size)) => {
             if !looks::children_formed(children) {
                 return Answer::Damaged;
             }
@@ -87,7 +77,7 @@ pub fn open(
             }
             start(header, size, Opening::Children(Huge(0)))
         }
-        Openable::Closed(size) => {
+        Ok(Zoned::Clean(size)) => {
             if !looks::children_formed(children) {
                 return Answer::Damaged;
             }
@@ -104,15 +94,13 @@ fn recount(words: &[u64], children: &mut [u16], shape: Shape, huge: Huge) -> Ans
     ensures { result_of result (zone [] words.now children.new [] []) ≡ done (zone [] words.now children.old [] []) (open_at (shape_of shape) (zone [] words.now children.old [] []) (Opening.Children huge)) }
 {
     match lower::store_recount(children, words, huge.0 as usize) {
-        Recounted::Stored => {
+        Ok(()) => {
             if huge.0 + 1 < entries::huge_frames(shape.size) {
                 return opening(Opening::Children(Huge(huge.0 + 1)));
             }
             opening(Opening::Trees(Tree(0)))
         }
-        Recounted::Damaged => Answer::Damaged,
-        Recounted::NoChild => Answer::BadRecord,
-        Recounted::NoField => Answer::BadRecord,
+        Err(fault) => Answer::from(fault),
     }
 }
 
@@ -130,14 +118,13 @@ fn add_up(children: &[u16], trees: &mut [u16], shape: Shape, tree: Tree) -> Answ
         tree,
         looks::child_count(children, shape, tree),
     ) {
-        Added::Added => {
+        Ok(()) => {
             if tree.0 + 1 < entries::trees_of(shape.size) {
                 return opening(Opening::Trees(Tree(tree.0 + 1)));
             }
             opening(Opening::Cpus(0))
         }
-        Added::Damaged => Answer::Damaged,
-        Added::NoTree => Answer::BadRecord,
+        Err(fault) => Answer::from(fault),
     }
 }
 
@@ -147,13 +134,13 @@ fn forget(cpus: &mut [u64], shape: Shape, cpu: u8) -> Answer
     ensures { result_of result (zone [] [] [] [] cpus.new) ≡ done (zone [] [] [] [] cpus.old) (open_at (shape_of shape) (zone [] [] [] [] cpus.old) (Opening.Cpus cpu)) }
 {
     match cpu_entries::store_absent(cpus, cpu as usize) {
-        Stored::Stored => {
+        Ok(()) => {
             if cpu + 1 < shape.cpus {
                 return opening(Opening::Cpus(cpu + 1));
             }
             Answer::Done(Frame(0))
         }
-        Stored::NoEntry => Answer::BadRecord,
+        Err(fault) => Answer::from(fault),
     }
 }
 
@@ -187,8 +174,8 @@ pub fn open_step(
     ensures { result_of result (zone header.now words.now children.new trees.new cpus.new) ≡ done (zone header.now words.now children.old trees.old cpus.old) (open_step (zone header.now words.now children.old trees.old cpus.old) rec) }
 {
     match calls::check(header, words.len(), children.len(), trees.len(), cpus.len()) {
-        Checked::Refused(answer) => answer,
-        Checked::Zone(shape) => match rec {
+        Err(answer) => answer,
+        Ok(shape) => match rec {
             Record::Finished => Answer::BadRecord,
             Record::Get { cpu: _, stage: _ } => Answer::BadRecord,
             Record::Put { cpu: _, stage: _ } => Answer::BadRecord,
@@ -216,37 +203,26 @@ fn recount_on(
     first: Huge,
     fuel: u64,
 ) -> Way
-    requires { (checked header.now (length words.now) (length children.old) (length trees.now) (length cpus.now) ≡ Checked.Zone shape) × (first.0 < huge_of shape.size) }
+    requires { (checked header.now (length words.now) (length children.old) (length trees.now) (length cpus.now) ≡ Ok shape) × (first.0 < huge_of shape.size) }
     ensures { WentOn open_step fuel 0 (Record.Open (Opening.Children first)) result (zone header.now words.now children.new trees.now cpus.now) (zone header.now words.now children.old trees.now cpus.now) }
 {
     let huge = entries::huge_frames(shape.size);
     let mut at = first.0;
-    let mut steps: u64 = 0;
-    while steps < fuel {
-        match lower::store_recount(children, words, at as usize) {
-            Recounted::Stored => {}
-            Recounted::Damaged => {
-                return calls::way_of(Answer::Damaged, steps + 1);
-            }
-            Recounted::NoChild => {
-                return calls::way_of(Answer::BadRecord, steps + 1);
-            }
-            Recounted::NoField => {
-                return calls::way_of(Answer::BadRecord, steps + 1);
-            }
+    for steps in 0..fuel {
+        if let Err(fault) = lower::store_recount(children, words, at as usize) {
+            return calls::way_of(Answer::from(fault), steps + 1);
         }
-        steps += 1;
         at += 1;
         if at == huge {
             return Way::Goes {
                 rec: Record::Open(Opening::Trees(Tree(0))),
-                steps,
+                steps: steps + 1,
             };
         }
     }
     Way::Goes {
         rec: Record::Open(Opening::Children(Huge(at))),
-        steps,
+        steps: fuel,
     }
 }
 
@@ -262,18 +238,16 @@ fn way(
 ) -> Way
     ensures { WentOn open_step fuel 0 rec result (zone header.now words.now children.new trees.now cpus.now) (zone header.now words.now children.old trees.now cpus.now) }
 {
-    if let Record::Open(stage) = rec {
-        if let Opening::Children(first) = stage {
-            if let Checked::Zone(shape) = calls::check(
-                header,
-                words.len(),
-                children.len(),
-                trees.len(),
-                cpus.len(),
-            ) {
-                if first.0 < entries::huge_frames(shape.size) {
-                    return recount_on(header, words, children, trees, cpus, shape, first, fuel);
-                }
+    if let Record::Open(Opening::Children(first)) = rec {
+        if let Ok(shape) = calls::check(
+            header,
+            words.len(),
+            children.len(),
+            trees.len(),
+            cpus.len(),
+        ) {
+            if first.0 < entries::huge_frames(shape.size) {
+                return recount_on(header, words, children, trees, cpus, shape, first, fuel);
             }
         }
     }
@@ -293,24 +267,8 @@ fn step_on(
 ) -> Ended
     ensures { ran_to result (zone header.now words.now children.new trees.new cpus.new) ≡ follow open_step (fuel - made) made (Answer.UnderWay rec) (zone header.now words.now children.old trees.old cpus.old) }
 {
-    let mut at = rec;
-    let mut steps = made;
-    while steps < fuel {
-        let answer = open_step(header, words, children, trees, cpus, at);
-        steps += 1;
-        match calls::next_of(answer) {
-            Next::Ends => {
-                return Ended { answer, steps };
-            }
-            Next::GoesOn(next) => {
-                at = next;
-            }
-        }
-    }
-    Ended {
-        answer: Answer::UnderWay(at),
-        steps,
-    }
+    let mut step = |at: Record| open_step(header, words, children, trees, cpus, at);
+    calls::follow(&mut step, rec, made, fuel)
 }
 
 // Up to `fuel` later steps of open in one call, one at least, counted. Out of steps it answers 1 with the record. A refused step stores nothing: the tables are

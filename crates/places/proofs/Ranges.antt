@@ -50,14 +50,14 @@ passes_append (x ∷ a) b = rw (passes_append a b) (pick_row (pass x) (passes a)
 pub then_tells : (a b : List Check) {t r : Bool} → t ≡ passes a → t ≡ true → r ≡ passes b → r ≡ passes (a ++ b)
 then_tells a b p q e = e ∙ sym (passes_append a b ∙ pick_yes _ _ _ (sym p ∙ q))
 
-pub then_fails : (a b : List Check) {t : Bool} → t ≡ passes a → t ≡ false → false ≡ passes (a ++ b)
-then_fails a b p q = sym (passes_append a b ∙ pick_no _ _ _ (sym p ∙ q))
+pub then_fails : (a b : List Check) {t : Bool} → t ≡ passes a → t ≡ false → t ≡ passes (a ++ b)
+then_fails a b p q = q ∙ sym (passes_append a b ∙ pick_no _ _ _ (sym p ∙ q))
 
 -- three in a row, where t is the test of the first two
 pub third_tells : (a b d : List Check) {t r : Bool} → t ≡ passes (a ++ b) → t ≡ true → r ≡ passes d → r ≡ passes (a ++ (b ++ d))
 third_tells a b d p q e = then_tells (a ++ b) d p q e ∙ ap passes (append_assoc a b d)
 
-pub third_fails : (a b d : List Check) {t : Bool} → t ≡ passes (a ++ b) → t ≡ false → false ≡ passes (a ++ (b ++ d))
+pub third_fails : (a b d : List Check) {t : Bool} → t ≡ passes (a ++ b) → t ≡ false → t ≡ passes (a ++ (b ++ d))
 third_fails a b d p q = then_fails (a ++ b) d p q ∙ ap passes (append_assoc a b d)
 
 -- the last check, where those before it are passed

@@ -2,13 +2,11 @@
 #![tactic(auto)]
 
 ghost use Rattle.std.specs.Prelude.{◌≡◌, ◌++◌, suc, ◌^◌, ◌<◌, ltb};
-ghost use Rattle.rules.specs.Numbers.{trees_of};
-ghost use Rattle.rules.specs.Conversions.{tree as tree_number};
 ghost use Rattle.laws.specs.Tests.{passes, Passes};
 ghost use Rattle.rules.specs.Blocks.{size, size_of, first_of, huge_of_block};
 ghost use Rattle.rules.specs.Ranges.{tree_in, hand_in, child_in, frame_in, huge_in, block_in, pass_in, steal_in, found_in, place_in, taking_in, giving_in, creating_in, opening_in};
 ghost use Rattle.rules.specs.Places.{found_tree, place_tree, skip, near_from, steal_from, after_pass, after_steal, after_place};
-ghost use Rattle.places.specs.Shapes.{shape_of, block_at_in};
+ghost use Rattle.places.specs.Shapes.{shape_of, tree_after_in, block_at_in};
 
 use entries::Size;
 use rules::{
@@ -94,10 +92,7 @@ fn frame_in(shape: Shape, frame: Frame) -> bool
 fn run_in(shape: Shape, run: Run, first: Frame) -> bool
     ensures { result ≡ passes (block_in (shape_of shape) (Block.Run run first)) }
 {
-    if frame_in(shape, first) {
-        return first.0 % rules::frames_of(run) as u64 == 0;
-    }
-    false
+    frame_in(shape, first) && first.0 % rules::frames_of(run) as u64 == 0
 }
 
 fn block_in(shape: Shape, block: Block) -> bool
@@ -115,21 +110,12 @@ fn pass_in(shape: Shape, pass: Pass) -> bool
 {
     match pass {
         Pass::Near { tree, base } => {
-            let trees = entries::trees_of(shape.size);
-            if trees <= tree.0 {
-                return false;
-            }
-            if trees <= base.0 {
-                return false;
-            }
-            if tree.0 == base.0 {
-                return false;
-            }
-            tree.0 as u32 / NEAR_TREES == base.0 as u32 / NEAR_TREES
+            tree_in(shape, tree)
+                && tree_in(shape, base)
+                && tree != base
+                && tree.0 as u32 / NEAR_TREES == base.0 as u32 / NEAR_TREES
         }
-        Pass::Partial(tree) => tree_in(shape, tree),
-        Pass::Free(tree) => tree_in(shape, tree),
-        Pass::Any(tree) => tree_in(shape, tree),
+        Pass::Partial(tree) | Pass::Free(tree) | Pass::Any(tree) => tree_in(shape, tree),
     }
 }
 
@@ -137,10 +123,7 @@ fn pass_in(shape: Shape, pass: Pass) -> bool
 fn steal_in(shape: Shape, cpu: u8, from: u8) -> bool
     ensures { result ≡ passes (steal_in (shape_of shape) cpu from) }
 {
-    if shape.cpus <= from {
-        return false;
-    }
-    from != cpu
+    from < shape.cpus && from != cpu
 }
 
 fn found_in(shape: Shape, cpu: u8, found: Found) -> bool
@@ -148,12 +131,7 @@ fn found_in(shape: Shape, cpu: u8, found: Found) -> bool
 {
     match found {
         Found::Pass(pass) => pass_in(shape, pass),
-        Found::Steal { from, tree } => {
-            if steal_in(shape, cpu, from) {
-                return tree_in(shape, tree);
-            }
-            false
-        }
+        Found::Steal { from, tree } => steal_in(shape, cpu, from) && tree_in(shape, tree),
     }
 }
 
@@ -169,41 +147,27 @@ fn place_in(shape: Shape, cpu: u8, place: Place) -> bool
 fn tree_hand_in(shape: Shape, tree: Tree, hand: u16) -> bool
     ensures { result ≡ passes (tree_in (shape_of shape) tree ++ hand_in (shape_of shape) tree hand) }
 {
-    if tree_in(shape, tree) {
-        return hand_in(shape, tree, hand);
-    }
-    false
+    tree_in(shape, tree) && hand_in(shape, tree, hand)
 }
 
 fn found_hand_in(shape: Shape, cpu: u8, found: Found, hand: u16) -> bool
     ensures { result ≡ passes (found_in (shape_of shape) cpu found ++ hand_in (shape_of shape) (found_tree found) hand) }
 {
-    if found_in(shape, cpu, found) {
-        return hand_in(shape, found_tree(found), hand);
-    }
-    false
+    found_in(shape, cpu, found) && hand_in(shape, found_tree(found), hand)
 }
 
 fn place_hand_in(shape: Shape, cpu: u8, place: Place, hand: u16) -> bool
     ensures { result ≡ passes (place_in (shape_of shape) cpu place ++ hand_in (shape_of shape) (place_tree place) hand) }
 {
-    if place_in(shape, cpu, place) {
-        return hand_in(shape, place_tree(place), hand);
-    }
-    false
+    place_in(shape, cpu, place) && hand_in(shape, place_tree(place), hand)
 }
 
 // A search: its place, its start child and the child that it is at.
 pub fn search_in(shape: Shape, cpu: u8, place: Place, start: u8, child: u8) -> bool
     ensures { result ≡ passes (place_in (shape_of shape) cpu place ++ (child_in (shape_of shape) (place_tree place) start ++ child_in (shape_of shape) (place_tree place) child)) }
 {
-    if place_in(shape, cpu, place) {
-        let tree = place_tree(place);
-        if child_in(shape, tree, start) {
-            return child_in(shape, tree, child);
-        }
-    }
-    false
+    let tree = place_tree(place);
+    place_in(shape, cpu, place) && child_in(shape, tree, start) && child_in(shape, tree, child)
 }
 
 pub fn taking_in(shape: Shape, cpu: u8, stage: Taking) -> bool
@@ -254,12 +218,7 @@ pub fn taking_in(shape: Shape, cpu: u8, stage: Taking) -> bool
             start,
             child,
             word,
-        } => {
-            if search_in(shape, cpu, place, start, child) {
-                return word < CHILD_WORDS;
-            }
-            false
-        }
+        } => search_in(shape, cpu, place, start, child) && word < CHILD_WORDS,
         Taking::GiveBack {
             run: _,
             place,
@@ -307,11 +266,11 @@ pub fn opening_in(shape: Shape, stage: Opening) -> bool
 
 // ---- blocks
 
-// The tree and the child that a block lies in; nowhere, outside the zone.
+// The tree and the child that a block lies in.
 #[derive(Clone, Copy)]
-pub enum BlockAt {
-    At { tree: Tree, child: u8 },
-    Nowhere,
+pub struct BlockAt {
+    pub tree: Tree,
+    pub child: u8,
 }
 
 // A block's huge frame, where the zone has it.
@@ -325,17 +284,18 @@ fn huge_number(shape: Shape, block: Block) -> u32
     }
 }
 
-pub fn block_at(shape: Shape, block: Block) -> BlockAt
+// None: the block lies outside the zone.
+pub fn block_at(shape: Shape, block: Block) -> Option<BlockAt>
     ensures { result ≡ block_at_in (shape_of shape) block }
 {
-    if block_in(shape, block) {
-        let huge = huge_number(shape, block);
-        return BlockAt::At {
-            tree: Tree((huge / TREE_CHILDREN) as u16),
-            child: (huge % TREE_CHILDREN) as u8,
-        };
+    if !block_in(shape, block) {
+        return None;
     }
-    BlockAt::Nowhere
+    let huge = huge_number(shape, block);
+    Some(BlockAt {
+        tree: Tree((huge / TREE_CHILDREN) as u16),
+        child: (huge % TREE_CHILDREN) as u8,
+    })
 }
 
 pub fn first_of(block: Block) -> Frame
@@ -362,21 +322,17 @@ pub fn block_frames(block: Block) -> u16
 fn near_from(shape: Shape, cpu: u8, order: Order, tree: u32, base: Tree) -> Taking
     ensures { result ≡ near_from (shape_of shape) cpu order tree base }
 {
-    if tree < entries::trees_of(shape.size) as u32 {
-        if tree / NEAR_TREES == base.0 as u32 / NEAR_TREES {
-            return Taking::Try {
-                order,
-                pass: Pass::Near {
-                    tree: Tree(tree as u16),
-                    base,
-                },
-            };
+    let pass = if tree < entries::trees_of(shape.size) as u32
+        && tree / NEAR_TREES == base.0 as u32 / NEAR_TREES
+    {
+        Pass::Near {
+            tree: Tree(tree as u16),
+            base,
         }
-    }
-    Taking::Try {
-        order,
-        pass: Pass::Partial(Tree(0)),
-    }
+    } else {
+        Pass::Partial(Tree(0))
+    };
+    Taking::Try { order, pass }
 }
 
 // Steal: the CPUs from `from` on; after the last one, No room.
@@ -400,18 +356,15 @@ fn skip(x: u32, i: u32) -> u32
     if i == x { i + 1 } else { i }
 }
 
-// Whether the zone has a tree after this one.
-fn has_next(shape: Shape, tree: Tree) -> bool
-    ensures { result ≡ ltb (suc tree.0) (trees_of (shape_of shape)) }
+// The tree after this one; None after the zone's last.
+fn tree_after(shape: Shape, tree: Tree) -> Option<Tree>
+    ensures { result ≡ tree_after_in (shape_of shape) tree }
 {
-    (tree.0 as u32) + 1 < entries::trees_of(shape.size) as u32
-}
-
-fn tree_after(tree: Tree) -> Tree
-    requires { tree.0 < 65535 }
-    ensures { result ≡ tree_number (suc tree.0) }
-{
-    Tree(tree.0 + 1)
+    if tree.0 as u32 + 1 < entries::trees_of(shape.size) as u32 {
+        Some(Tree(tree.0 + 1))
+    } else {
+        None
+    }
 }
 
 // The place after a tree of a pass.
@@ -426,39 +379,21 @@ pub fn after_pass(shape: Shape, cpu: u8, order: Order, pass: Pass) -> Taking
             skip(base.0 as u32, tree.0 as u32 + 1),
             base,
         ),
-        Pass::Partial(tree) => {
-            if has_next(shape, tree) {
-                return Taking::Try {
-                    order,
-                    pass: Pass::Partial(tree_after(tree)),
-                };
-            }
-            Taking::Try {
+        Pass::Partial(tree) => Taking::Try {
+            order,
+            pass: tree_after(shape, tree).map_or(Pass::Free(Tree(0)), Pass::Partial),
+        },
+        Pass::Free(tree) => Taking::Try {
+            order,
+            pass: tree_after(shape, tree).map_or(Pass::Any(Tree(0)), Pass::Free),
+        },
+        Pass::Any(tree) => match tree_after(shape, tree) {
+            Some(next) => Taking::Try {
                 order,
-                pass: Pass::Free(Tree(0)),
-            }
-        }
-        Pass::Free(tree) => {
-            if has_next(shape, tree) {
-                return Taking::Try {
-                    order,
-                    pass: Pass::Free(tree_after(tree)),
-                };
-            }
-            Taking::Try {
-                order,
-                pass: Pass::Any(Tree(0)),
-            }
-        }
-        Pass::Any(tree) => {
-            if has_next(shape, tree) {
-                return Taking::Try {
-                    order,
-                    pass: Pass::Any(tree_after(tree)),
-                };
-            }
-            steal_from(shape, cpu, order, skip(cpu as u32, 0))
-        }
+                pass: Pass::Any(next),
+            },
+            None => steal_from(shape, cpu, order, skip(cpu as u32, 0)),
+        },
     }
 }
 

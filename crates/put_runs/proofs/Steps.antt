@@ -10,7 +10,8 @@ use Rattle.laws.proofs.Tests.{pick_no, all_passed}
 use Rattle.rules.specs.Numbers.{Shape as Rules}
 use Rattle.rules.specs.Blocks.{run_size, size_of, first_of, word_of, bit_of}
 use Rattle.rules.specs.Ranges.{block_in, cpu_in, giving_in, step_range}
-use Rattle.rules.specs.Answers.{number}
+use Rattle.std.specs.Prelude.{Result as Said, Ok, Err}
+use Rattle.rules.specs.Answers.{number, answer_of}
 use Rattle.rules.specs.Zone.{Zone}
 use Rattle.rules.specs.Lower.{give_count, clear_huge}
 use Rattle.rules.specs.Plan.{plain, clears, Made, Tally, cpu_entry, tree_entry, child_entry, word_entry}
@@ -21,11 +22,11 @@ use Rattle.entries.specs.Steps.{add_count_in}
 use Rattle.cpu_entries.specs.Steps.{add_own_in}
 use Rattle.places.specs.Shapes.{shape_of, ranged}
 use Rattle.lending.specs.Answers.{given_answer}
+use Rattle.lending.proofs.Lending.{count_same, huge_same}
 use Rattle.cpu_stages.specs.Tables.{in_cpus}
 use Rattle.cpu_stages.specs.Answers.{held_answer}
 use Rattle.cpu_stages.proofs.Rules.{to_entry_rule}
 use Rattle.tree_stages.specs.Tables.{in_trees}
-use Rattle.tree_stages.specs.Answers.{added_answer}
 use Rattle.tree_stages.proofs.Rules.{to_tree_rule}
 use Rattle.child_stages.specs.Tables.{lent_children, in_children}
 use Rattle.child_stages.proofs.Rules.{given_there}
@@ -36,7 +37,7 @@ use Rattle.upper.proofs.Stepped.{step_refused, step_out, step_acts, cpu_out, sta
 use Rattle.upper.proofs.Runs.{stays, went, goes}
 use Rattle.calls.specs.Results.{zone, Result, result_of, done, Fits, Opened, way_by, way_of, went_to, WentOn}
 use Rattle.calls.proofs.Opened.{checked_in, checked_open}
-use Rattle.put_runs.specs.Types.{Frame, Huge, Tree, Run, Block, Gave, Giving, Record, CpuEntry, Answer, Given, Added, Held, Shape, Checked, Way}
+use Rattle.put_runs.specs.Types.{Frame, Huge, Tree, Run, Block, Giving, Record, CpuEntry, Answer, Fault, Shape, Way}
 use Rattle.put_runs.specs.Stands.{steps_to_entry, ends_with, LiesAt}
 
 -- ---- a put's numbers are its block's
@@ -105,55 +106,42 @@ module _ {s : Shape} {cpu : ℕ} {h w c t p : List ℕ} (o : Opened s cpu h w c 
 -- ---- the stages, from what the low level says
 
 module _ {s : Shape} {cpu : ℕ} {h w c t p : List ℕ} (o : Opened s cpu h w c t p) {r : Answer} {m : List ℕ} {u : Tree} {i : ℕ} where
-  pub to_tree_step : {b : Block} {n : ℕ} {a : Added} → LiesAt s b u i → n ≡ size_of b → outcome a m ≡ add_count_in s.size u n t
-      → r ≡ added_answer (Answer.Done (first_of b)) a → Steps (zone h w c t p) (Record.Put cpu (Giving.ToTree b)) (result_of r (zone h w c m p))
+  pub to_tree_step : {b : Block} {n : ℕ} {a : Said Unit Fault} → LiesAt s b u i → n ≡ size_of b → outcome a m ≡ add_count_in s.size u n t
+      → r ≡ given_answer (Answer.Done (first_of b)) a → Steps (zone h w c t p) (Record.Put cpu (Giving.ToTree b)) (result_of r (zone h w c m p))
   unfolding give
-  to_tree_step {b} {n} q f d a = tree_steps o (Giving.ToTree b) refl (to_tree_rule s cpu b t u i refl q refl n f d a)
+  to_tree_step {b} {n} q f d a = tree_steps o (Giving.ToTree b) refl (to_tree_rule s cpu b t refl q refl f d a)
 
-  pub to_entry_step : {b : Block} {n : ℕ} {a : Held} → LiesAt s b u i → n ≡ size_of b → outcome a m ≡ add_own_in s.size cpu u n p
+  pub to_entry_step : {b : Block} {n : ℕ} {a : Said Bool Fault} → LiesAt s b u i → n ≡ size_of b → outcome a m ≡ add_own_in s.size cpu u n p
       → r ≡ held_answer (Answer.Done (first_of b)) (Answer.UnderWay (Record.Put cpu (Giving.ToTree b))) a → Steps (zone h w c t p) (Record.Put cpu (Giving.ToEntry b)) (result_of r (zone h w c t m))
   unfolding give
-  to_entry_step {b} {n} q f d a = cpu_steps o (Giving.ToEntry b) refl (to_entry_rule s cpu b p u i refl q refl n f refl d a)
+  to_entry_step {b} {n} q f d a = cpu_steps o (Giving.ToEntry b) refl (to_entry_rule s cpu b p refl q refl f refl d a)
 
-  pub raise_step : {v : Run} {f : Frame} {n : ℕ} {a : Given} → LiesAt s (Block.Run v f) u i → n ≡ run_size v → outcome a m ≡ lent_children (shape_of s) u Given.NoChild (λ l. give_in n l i) c
+  pub raise_step : {v : Run} {f : Frame} {n : ℕ} {a : Said Unit Fault} → LiesAt s (Block.Run v f) u i → n ≡ run_size v → outcome a m ≡ lent_children (shape_of s) u (Err Fault.NoChild) (λ l. give_in n l i) c
       → r ≡ given_answer (Answer.UnderWay (Record.Put cpu (Giving.ToEntry (Block.Run v f)))) a → Steps (zone h w c t p) (Record.Put cpu (Giving.Raise v f)) (result_of r (zone h w m t p))
   unfolding give in_children
-  raise_step {v} {f} q n d a = child_steps_lem o (Giving.Raise v f) refl (given_there (shape_of s) c (Block.Run v f) _ refl q _ plain a (give_count (run_size v)) (rw n at d) refl)
+  raise_step {v} {f} q n d a = child_steps_lem o (Giving.Raise v f) refl (given_there (shape_of s) c (Block.Run v f) _ refl q _ plain a (give_count (run_size v)) (count_same _ _ (run_size v)) (rw n at d) refl)
 
-  pub clear_whole_step : {y : Huge} {a : Given} → LiesAt s (Block.Whole y) u i → outcome a m ≡ lent_children (shape_of s) u Given.NoChild (λ l. clear_huge_in l i) c
+  pub clear_whole_step : {y : Huge} {a : Said Unit Fault} → LiesAt s (Block.Whole y) u i → outcome a m ≡ lent_children (shape_of s) u (Err Fault.NoChild) (λ l. clear_huge_in l i) c
       → r ≡ given_answer (Answer.UnderWay (Record.Put cpu (Giving.ToEntry (Block.Whole y)))) a → Steps (zone h w c t p) (Record.Put cpu (Giving.Clear (Block.Whole y))) (result_of r (zone h w m t p))
   unfolding give clear in_children
-  clear_whole_step {y} q d a = child_steps_lem o (Giving.Clear (Block.Whole y)) refl (given_there (shape_of s) c (Block.Whole y) _ refl q _ (clears (Block.Whole y)) a clear_huge d refl)
+  clear_whole_step {y} q d a = child_steps_lem o (Giving.Clear (Block.Whole y)) refl (given_there (shape_of s) c (Block.Whole y) _ refl q _ (clears (Block.Whole y)) a clear_huge (huge_same _ _) d refl)
 
-  pub clear_run_step : {v : Run} {f : Frame} {a : Given} → LiesAt s (Block.Run v f) u i → outcome a m ≡ lent_words (shape_of s) u Given.NoChild (λ l. clear_run_in (run_size v) l i (word_of f) (bit_of f)) w
+  pub clear_run_step : {v : Run} {f : Frame} {a : Said Unit Fault} → LiesAt s (Block.Run v f) u i → outcome a m ≡ lent_words (shape_of s) u (Err Fault.NoChild) (λ l. clear_run_in (run_size v) l i (word_of f) (bit_of f)) w
       → r ≡ given_answer (Answer.UnderWay (Record.Put cpu (Giving.Raise v f))) a → Steps (zone h w c t p) (Record.Put cpu (Giving.Clear (Block.Run v f))) (result_of r (zone h m c t p))
   unfolding give clear in_words
   clear_run_step {v} {f} q d a = word_steps o (Giving.Clear (Block.Run v f)) refl (cleared_there (shape_of s) w (Block.Run v f) _ refl q _ (clears (Block.Run v f)) a (run_size v) (bit_of f) (omega arith) (run_fits (shape_of s) v f refl q) d refl)
 
--- ---- the answer of a count given back, or of a block cleared
+-- ---- a fault: the answer is a refusal
 
--- what was said is not of an entry; of an entry, it is not that the block was given
-abbrev NotEntry : Given → Type 0
-NotEntry s = (v : Gave) → s ≡ Given.Entry v → ⊥
-
-abbrev NotGiven : Gave → Type 0
-NotGiven v = v ≡ Gave.Given → ⊥
-
--- then the answer is a refusal
-module _ (x : Answer) where
-  pub said_refused : (s : Given) → NotEntry s → 2 ≤ number (given_answer x s)
-  said_refused (Given.Entry v) k = absurd (k v refl)
-  said_refused Given.NoChild k = omega arith
-  said_refused Given.NoWord k = omega arith
-  said_refused Given.NoBit k = omega arith
-
-  gave_is : (v : Gave) → NotGiven v → 2 ≤ number (given_answer x (Given.Entry v))
-  gave_is Gave.Given k = absurd (k refl)
-  gave_is Gave.NotTaken k = omega arith
-  gave_is Gave.Damaged k = omega arith
-
-  pub gave_refused : {s : Given} {v : Gave} → s ≡ Given.Entry v → NotGiven v → 2 ≤ number (given_answer x s)
-  gave_refused {s} {v} e k = subst (λ y. 2 ≤ number (given_answer x y)) (sym e) (gave_is v k)
+pub fault_refused : (f : Fault) → 2 ≤ number (answer_of f)
+fault_refused Fault.Damaged = omega arith
+fault_refused Fault.NotTaken = omega arith
+fault_refused Fault.NoEntry = omega arith
+fault_refused Fault.NoChild = omega arith
+fault_refused Fault.NoWord = omega arith
+fault_refused Fault.NoBit = omega arith
+fault_refused Fault.NoField = omega arith
+fault_refused Fault.TooMany = omega arith
 
 -- ---- the run goes on
 
@@ -189,9 +177,9 @@ steps_few (Block.Whole h) e = omega arith
 -- ---- what a put that begins is refused for
 
 module _ {h w c t p : List ℕ} {cpu : ℕ} {x : Giving} where
-  pub refused : {a : Answer} → checked_in h w c t p ≡ Checked.Refused a → Steps (zone h w c t p) (Record.Put cpu x) (result_of a (zone h w c t p))
+  pub refused : {a : Answer} → checked_in h w c t p ≡ Err a → Steps (zone h w c t p) (Record.Put cpu x) (result_of a (zone h w c t p))
   refused e = record { says = step_refused h w c t p (Record.Put cpu x) e }
 
-  pub no_cpu : {s : Shape} → checked_in h w c t p ≡ Checked.Zone s → s.cpus ≤ cpu → Steps (zone h w c t p) (Record.Put cpu x) (result_of Answer.BadRecord (zone h w c t p))
+  pub no_cpu : {s : Shape} → checked_in h w c t p ≡ Ok s → s.cpus ≤ cpu → Steps (zone h w c t p) (Record.Put cpu x) (result_of Answer.BadRecord (zone h w c t p))
   unfolding step_range
   no_cpu {s} e b = record { says = step_out h w c t p (Record.Put cpu x) e refl (cpu_out s.cpus cpu _ b) }

@@ -1,8 +1,8 @@
 -- Where a put stands, and how its run goes on from there; and where its block lies.
-use Rattle.std.specs.Prelude.{◌≡◌, ℕ, ◌+◌}
+use Rattle.std.specs.Prelude.{◌≡◌, ℕ, ◌+◌, Some}
 use Rattle.rules.specs.Blocks.{first_of}
 use Rattle.places.specs.Shapes.{shape_of, block_at_in}
-use Rattle.put_runs.specs.Types.{Tree, Block, Giving, Record, Answer, Shape, BlockAt, Way, At}
+use Rattle.put_runs.specs.Types.{Tree, Block, Giving, Record, Answer, Shape, Way, At}
 
 -- the steps that lead to the entry
 abbrev pub steps_to_entry : Block → ℕ
@@ -27,7 +27,7 @@ way_at cpu b At.InTree = ends_with b (steps_to_entry b + 2)
 
 -- the block lies in the zone, in that child of that tree
 abbrev pub LiesAt : Shape → Block → Tree → ℕ → Type 0
-LiesAt s b t c = block_at_in (shape_of s) b ≡ BlockAt.At t c
+LiesAt s b t c = block_at_in (shape_of s) b ≡ Some (record { tree = t; child = c })
 
 -- in that tree
 pub record LiesIn (s : Shape) (b : Block) (t : Tree) : Type 0 where

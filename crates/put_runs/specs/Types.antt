@@ -4,16 +4,11 @@ pub use Rattle.rules.specs.declared.Huge.{Huge}
 pub use Rattle.rules.specs.declared.Tree.{Tree}
 pub use Rattle.rules.specs.declared.Run.{Run}
 pub use Rattle.rules.specs.declared.Block.{Block}
-pub use Rattle.rules.specs.declared.Gave.{Gave}
 pub use Rattle.rules.specs.declared.Giving.{Giving}
 pub use Rattle.rules.specs.declared.Record.{Record}
 pub use Rattle.rules.specs.declared.CpuEntry.{CpuEntry}
 pub use Rattle.rules.specs.declared.Answer.{Answer}
-pub use Rattle.lower.specs.declared.Given.{Given}
-pub use Rattle.cpu_entries.specs.declared.Held.{Held}
+pub use Rattle.rules.specs.declared.Fault.{Fault}
 pub use Rattle.places.specs.declared.Shape.{Shape}
-pub use Rattle.places.specs.declared.BlockAt.{BlockAt}
-pub use Rattle.calls.specs.declared.Checked.{Checked}
 pub use Rattle.calls.specs.declared.Way.{Way}
-pub use Rattle.entries.specs.declared.Added.{Added}
 pub use Rattle.put_runs.specs.declared.At.{At}

@@ -9,12 +9,9 @@ ghost use Rattle.calls.specs.Results.{zone, Opened, went_to, WentOn};
 ghost use Rattle.put_runs.specs.Stands.{steps_to_entry, ends_with, way_at, LiesAt, LiesIn};
 
 use begins::Putting;
-use calls::{Checked, Ended, Way};
-use cpu_entries::Held;
-use entries::Added;
-use lower::Given;
+use calls::{Ended, Way};
 use places::{BlockAt, Shape};
-use rules::{Answer, Block, Frame, Gave, Giving, Huge, Record, Run, Tree};
+use rules::{Answer, Block, Frame, Giving, Huge, Record, Run, Tree};
 
 const CHILD_FRAMES: u64 = 512;
 
@@ -99,9 +96,8 @@ fn tree_on(
         return At::ToTree;
     }
     match entries::add_count(trees, shape.size, tree, places::block_frames(block)) {
-        Added::Added => At::InTree,
-        Added::Damaged => At::ToTree,
-        Added::NoTree => At::ToTree,
+        Ok(()) => At::InTree,
+        Err(_) => At::ToTree,
     }
 }
 
@@ -132,8 +128,8 @@ fn entry_on(
         tree,
         places::block_frames(block),
     ) {
-        Held::Held => At::InEntry,
-        Held::Missed => tree_on(
+        Ok(true) => At::InEntry,
+        Ok(false) => tree_on(
             header,
             words,
             children,
@@ -146,8 +142,7 @@ fn entry_on(
             steps + 1,
             fuel,
         ),
-        Held::Damaged => At::ToEntry,
-        Held::NoCpu => At::ToEntry,
+        Err(_) => At::ToEntry,
     }
 }
 
@@ -172,13 +167,10 @@ fn raise_on(
     if fuel <= 1 {
         return At::Raise;
     }
-    let said = child_stages::give_count(children, shape, tree, child, rules::frames_of(run));
-    if let Given::Entry(gave) = said {
-        if let Gave::Given = gave {
-            return At::ToEntry;
-        }
+    match child_stages::give_count(children, shape, tree, child, rules::frames_of(run)) {
+        Ok(()) => At::ToEntry,
+        Err(_) => At::Raise,
     }
-    At::Raise
 }
 
 // The clearing store of a run.
@@ -201,15 +193,12 @@ fn clear_on(
 {
     let word = (first.0 % CHILD_FRAMES / WORD_BITS) as usize;
     let bit = (first.0 % WORD_BITS) as u32;
-    let said = word_stages::clear_run(words, shape, tree, child, word, bit, run);
-    if let Given::Entry(gave) = said {
-        if let Gave::Given = gave {
-            return raise_on(
-                header, words, children, trees, cpus, shape, cpu, run, first, tree, child, fuel,
-            );
-        }
+    match word_stages::clear_run(words, shape, tree, child, word, bit, run) {
+        Ok(()) => raise_on(
+            header, words, children, trees, cpus, shape, cpu, run, first, tree, child, fuel,
+        ),
+        Err(_) => At::Clear,
     }
-    At::Clear
 }
 
 // The clearing store of a huge frame.
@@ -229,13 +218,10 @@ fn whole_on(
     requires { Opened shape cpu header.now words.now children.old trees.now cpus.now × (0 < fuel) × LiesAt shape (Block.Whole huge) tree child }
     ensures { WentOn step fuel 0 (Record.Put cpu (Giving.Clear (Block.Whole huge))) (way_at cpu (Block.Whole huge) result) (zone header.now words.now children.new trees.now cpus.now) (zone header.now words.now children.old trees.now cpus.now) }
 {
-    let said = child_stages::clear_huge(children, shape, tree, child);
-    if let Given::Entry(gave) = said {
-        if let Gave::Given = gave {
-            return At::ToEntry;
-        }
+    match child_stages::clear_huge(children, shape, tree, child) {
+        Ok(()) => At::ToEntry,
+        Err(_) => At::Clear,
     }
-    At::Clear
 }
 
 // The steps before the entry's, where one is left: the clearing store, and a run's count.
@@ -283,30 +269,28 @@ fn block_on(
     if fuel == 0 {
         return At::Clear;
     }
-    match places::block_at(shape, block) {
-        BlockAt::Nowhere => At::Clear,
-        BlockAt::At { tree, child } => {
-            let at = cleared_on(
-                header, words, children, trees, cpus, shape, cpu, block, tree, child, fuel,
-            );
-            if let At::ToEntry = at {
-                return entry_on(
-                    header,
-                    words,
-                    children,
-                    trees,
-                    cpus,
-                    shape,
-                    cpu,
-                    block,
-                    tree,
-                    steps_to_entry(block),
-                    fuel,
-                );
-            }
-            at
-        }
+    let Some(BlockAt { tree, child }) = places::block_at(shape, block) else {
+        return At::Clear;
+    };
+    let at = cleared_on(
+        header, words, children, trees, cpus, shape, cpu, block, tree, child, fuel,
+    );
+    if let At::ToEntry = at {
+        return entry_on(
+            header,
+            words,
+            children,
+            trees,
+            cpus,
+            shape,
+            cpu,
+            block,
+            tree,
+            steps_to_entry(block),
+            fuel,
+        );
     }
+    at
 }
 
 // Up to `fuel` steps of a put that begins: each as a single step makes it, the checks of the zone and the CPU made once.
@@ -330,8 +314,8 @@ pub fn put_on(
         return Way::Goes { rec, steps: 0 };
     }
     match calls::check(header, words.len(), children.len(), trees.len(), cpus.len()) {
-        Checked::Refused(answer) => calls::way_of(answer, 1),
-        Checked::Zone(shape) => {
+        Err(answer) => calls::way_of(answer, 1),
+        Ok(shape) => {
             if shape.cpus <= cpu {
                 return calls::way_of(Answer::BadRecord, 1);
             }
@@ -358,12 +342,14 @@ pub fn put_run(
     ensures { went_to step fuel result (zone header.now words.new children.new trees.new cpus.new) ≡ follow step fuel 0 (begin_put (zone header.now words.old children.old trees.old cpus.old) cpu frame order).answer (zone header.now words.old children.old trees.old cpus.old) }
 {
     match begins::put_of(header, words, children, trees, cpus, cpu, frame, order) {
-        Putting::Refused(answer) => calls::way_of(answer, 0),
-        Putting::Of {
-            shape,
-            cpu: own,
-            block,
-        } => {
+        Err(answer) => calls::way_of(answer, 0),
+        Ok(
+            Putting {
+                shape,
+                cpu: own,
+                block,
+            },
+        ) => {
             let at = block_on(
                 header, words, children, trees, cpus, shape, own, block, fuel,
             );

@@ -1,10 +1,10 @@
 -- What each return of a reading and of a decoding has to show.
 use mathlib.Core.Path.{◌≡◌, refl, sym, ap, subst, ◌∙◌}
 use mathlib.Core.Logic.{◌≢◌}
-use mathlib.Core.Bool.{false}
+use mathlib.Core.Bool.{true, false}
 use Prim.Native.Nat.{ℕ, zero, suc, ◌≤◌, ◌<◌}
-use borrow.Author.Tests.{eq-eqb, ne_eqb}
-use Rattle.laws.proofs.Tests.{pick_yes, pick_no, both_and}
+use native.Mathlib.Omega.{arith}
+use Rattle.laws.proofs.Tests.{pick_yes, pick_no}
 use Rattle.records.specs.Types.{Taking, Giving, Creating, Opening, Record, Words, Head, Tail}
 use Rattle.records.specs.Encoding.{fields_of, Encodes, encode}
 use Rattle.records.specs.Decoding.{head_of, tail_of, block_in, taking_at, giving_at, creating_at, opening_at, read_at, read, same_words, decode}
@@ -45,21 +45,21 @@ module _ (w : Words) (h : Head) (e : h ≡ head_of w.first) where
   unfolding read_at
   read_finished z = same _ z refl ∙ by_head
 
-  pub read_get : {s : Taking} → h.stage ≢ 0 → h.stage < 18 → s ≡ taking_at h (tail_of w.second) w.second → Record.Get h.cpu s ≡ read w
+  pub read_get : {s : Taking} → 0 < h.stage → h.stage < 18 → s ≡ taking_at h (tail_of w.second) w.second → Record.Get h.cpu s ≡ read w
   unfolding read_at
-  read_get n a q = other _ n (below _ a (ap (Record.Get h.cpu) q)) ∙ by_head
+  read_get l u q = other _ (λ e. omega arith) (below _ u (ap (Record.Get h.cpu) q)) ∙ by_head
 
-  pub read_put : {s : Giving} → h.stage ≢ 0 → 18 ≤ h.stage → h.stage < 22 → s ≡ giving_at h w.second → Record.Put h.cpu s ≡ read w
+  pub read_put : {s : Giving} → 18 ≤ h.stage → h.stage < 22 → s ≡ giving_at h w.second → Record.Put h.cpu s ≡ read w
   unfolding read_at
-  read_put n a b q = other _ n (above _ a (below _ b (ap (Record.Put h.cpu) q))) ∙ by_head
+  read_put l u q = other _ (λ e. omega arith) (above _ l (below _ u (ap (Record.Put h.cpu) q))) ∙ by_head
 
-  pub read_create : {s : Creating} → h.stage ≢ 0 → 18 ≤ h.stage → 22 ≤ h.stage → h.stage < 27 → s ≡ creating_at h (tail_of w.second) w.second → Record.Create s ≡ read w
+  pub read_create : {s : Creating} → 22 ≤ h.stage → h.stage < 27 → s ≡ creating_at h (tail_of w.second) w.second → Record.Create s ≡ read w
   unfolding read_at
-  read_create n a b c q = other _ n (above _ a (above _ b (below _ c (ap Record.Create q)))) ∙ by_head
+  read_create l u q = other _ (λ e. omega arith) (above _ (omega arith) (above _ l (below _ u (ap Record.Create q)))) ∙ by_head
 
-  pub read_open : {s : Opening} → h.stage ≢ 0 → 18 ≤ h.stage → 22 ≤ h.stage → 27 ≤ h.stage → s ≡ opening_at h (tail_of w.second) w.second → Record.Open s ≡ read w
+  pub read_open : {s : Opening} → 27 ≤ h.stage → s ≡ opening_at h (tail_of w.second) w.second → Record.Open s ≡ read w
   unfolding read_at
-  read_open n a b c q = other _ n (above _ a (above _ b (above _ c (ap Record.Open q)))) ∙ by_head
+  read_open l q = other _ (λ e. omega arith) (above _ (omega arith) (above _ (omega arith) (above _ l (ap Record.Open q)))) ∙ by_head
 
 -- words of the record that is read
 pub encodes_read : (w : Words) (r : Record) {v : Words} → Encodes (fields_of r) v → r ≡ read w → v ≡ encode (read w)
@@ -72,18 +72,10 @@ module _ (w v : Words) {r : Record} (p : r ≡ read w) (q : v ≡ encode r) wher
   again : same_words (encode (read w)) w ≡ same_words v w
   again = sym (ap (λ v. same_words v w) (q ∙ ap encode p))
 
-  differs : same_words v w ≡ false → Record.Finished ≡ decode w
+  pub words_differ : same_words v w ≡ false → Record.Finished ≡ decode w
   unfolding decode
-  differs e = sym (pick_no _ _ _ (again ∙ e))
+  words_differ e = sym (pick_no _ _ _ (again ∙ e))
 
-  pub first_differs : v.first ≢ w.first → Record.Finished ≡ decode w
-  unfolding same_words
-  first_differs n = differs (rw (ne_eqb _ _ n) refl)
-
-  pub second_differs : v.first ≡ w.first → v.second ≢ w.second → Record.Finished ≡ decode w
-  unfolding same_words
-  second_differs e n = differs (rw (eq-eqb _ _ e, ne_eqb _ _ n) refl)
-
-  pub both_same : v.first ≡ w.first → v.second ≡ w.second → r ≡ decode w
-  unfolding decode same_words
-  both_same e f = p ∙ sym (pick_yes _ _ _ (again ∙ both_and _ _ (eq-eqb _ _ e) (eq-eqb _ _ f)))
+  pub words_same : same_words v w ≡ true → r ≡ decode w
+  unfolding decode
+  words_same e = p ∙ sym (pick_yes _ _ _ (again ∙ e))

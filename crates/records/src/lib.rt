@@ -42,26 +42,13 @@ pub fn frame_of(answer: Answer) -> u64
 {
     match answer {
         Answer::Done(frame) => frame.0,
-        Answer::UnderWay(_) => 0,
-        Answer::NoRoom => 0,
-        Answer::BadOrder => 0,
-        Answer::BadFrame => 0,
-        Answer::Misaligned => 0,
-        Answer::NotTaken => 0,
-        Answer::BadCpu => 0,
-        Answer::BadBuffers => 0,
-        Answer::NotAZone => 0,
-        Answer::Closed => 0,
-        Answer::BadRecord => 0,
-        Answer::Damaged => 0,
-        Answer::NotSettled => 0,
-        Answer::BadSize => 0,
+        _ => 0,
     }
 }
 
 // ---- the two words
 
-#[derive(Clone, Copy)]
+#[derive(Clone, Copy, PartialEq, Eq)]
 pub struct Words {
     pub first: u64,
     pub second: u64,
@@ -149,81 +136,97 @@ struct Spot {
     from: u8,
 }
 
-fn pass_spot(pass: Pass) -> Spot
-    ensures { result ≡ pass_spot pass }
+const NOWHERE: Spot = Spot {
+    kind: 0,
+    tree: 0,
+    base: 0,
+    from: 0,
+};
+
+// A tree, or a CPU to steal from, without a place.
+fn tree_spot(tree: Tree) -> Spot
+    ensures { result ≡ tree_spot tree }
 {
-    match pass {
-        Pass::Near { tree, base } => Spot {
-            kind: 2,
-            tree: tree.0,
-            base: base.0,
-            from: 0,
-        },
-        Pass::Partial(tree) => Spot {
-            kind: 3,
-            tree: tree.0,
-            base: 0,
-            from: 0,
-        },
-        Pass::Free(tree) => Spot {
-            kind: 4,
-            tree: tree.0,
-            base: 0,
-            from: 0,
-        },
-        Pass::Any(tree) => Spot {
-            kind: 5,
-            tree: tree.0,
-            base: 0,
-            from: 0,
-        },
+    Spot {
+        tree: tree.0,
+        ..NOWHERE
     }
 }
 
-fn found_spot(found: Found) -> Spot
-    ensures { result ≡ found_spot found }
+fn from_spot(from: u8) -> Spot
+    ensures { result ≡ from_spot from }
 {
-    match found {
-        Found::Pass(pass) => pass_spot(pass),
-        Found::Steal { from, tree } => Spot {
-            kind: 6,
-            tree: tree.0,
-            base: 0,
-            from,
-        },
+    Spot { from, ..NOWHERE }
+}
+
+impl From<Pass> for Spot {
+    ghost from_gives = { λ p s. s ≡ pass_spot p };
+
+    fn from(pass: Pass) -> Spot {
+        match pass {
+            Pass::Near { tree, base } => Spot {
+                kind: 2,
+                tree: tree.0,
+                base: base.0,
+                ..NOWHERE
+            },
+            Pass::Partial(tree) => Spot {
+                kind: 3,
+                ..tree_spot(tree)
+            },
+            Pass::Free(tree) => Spot {
+                kind: 4,
+                ..tree_spot(tree)
+            },
+            Pass::Any(tree) => Spot {
+                kind: 5,
+                ..tree_spot(tree)
+            },
+        }
     }
 }
 
-fn place_spot(place: Place) -> Spot
-    ensures { result ≡ place_spot place }
-{
-    match place {
-        Place::Own(tree) => Spot {
-            kind: 1,
-            tree: tree.0,
-            base: 0,
-            from: 0,
-        },
-        Place::Found(found) => found_spot(found),
+impl From<Found> for Spot {
+    ghost from_gives = { λ f s. s ≡ found_spot f };
+
+    fn from(found: Found) -> Spot {
+        match found {
+            Found::Pass(pass) => Spot::from(pass),
+            Found::Steal { from, tree } => Spot {
+                kind: 6,
+                from,
+                ..tree_spot(tree)
+            },
+        }
+    }
+}
+
+impl From<Place> for Spot {
+    ghost from_gives = { λ p s. s ≡ place_spot p };
+
+    fn from(place: Place) -> Spot {
+        match place {
+            Place::Own(tree) => Spot {
+                kind: 1,
+                ..tree_spot(tree)
+            },
+            Place::Found(found) => Spot::from(found),
+        }
     }
 }
 
 fn pass_at(kind: u8, tail: Tail) -> Pass
     ensures { result ≡ pass_at kind tail }
 {
-    if kind == 2 {
-        return Pass::Near {
+    match kind {
+        2 => Pass::Near {
             tree: Tree(tail.tree),
             base: Tree(tail.base),
-        };
+        },
+        3 => Pass::Partial(Tree(tail.tree)),
+        4 => Pass::Free(Tree(tail.tree)),
+        _ => Pass::Any(Tree(tail.tree)),
     }
-    if kind == 3 {
-        return Pass::Partial(Tree(tail.tree));
-    }
-    if kind == 4 {
-        return Pass::Free(Tree(tail.tree));
-    }
-    Pass::Any(Tree(tail.tree))
 }
 
 fn found_at(kind: u8, tail: Tail) -> Found
@@ -300,39 +303,6 @@ fn block_at(order: u8, second: u64) -> Block
 
 // ---- encoding
 
-fn nowhere() -> Spot
-    ensures { result ≡ spot_nowhere }
-{
-    Spot {
-        kind: 0,
-        tree: 0,
-        base: 0,
-        from: 0,
-    }
-}
-
-fn tree_spot(tree: Tree) -> Spot
-    ensures { result ≡ tree_spot tree }
-{
-    Spot {
-        kind: 0,
-        tree: tree.0,
-        base: 0,
-        from: 0,
-    }
-}
-
-fn from_spot(from: u8) -> Spot
-    ensures { result ≡ from_spot from }
-{
-    Spot {
-        kind: 0,
-        tree: 0,
-        base: 0,
-        from,
-    }
-}
-
 // A stage with its order, its place or tree, and what is in hand.
 fn held(stage: u8, cpu: u8, order: Order, spot: Spot, hand: u16) -> Words
     ensures { Encodes (fields_held stage cpu order spot hand) result }
@@ -347,7 +317,7 @@ fn held(stage: u8, cpu: u8, order: Order, spot: Spot, hand: u16) -> Words
 fn searched(stage: u8, cpu: u8, order: Order, place: Place, start: u8, child: u8, word: u8) -> Words
     ensures { Encodes (fields_searched stage cpu order place start child word) result }
 {
-    let spot = place_spot(place);
+    let spot = Spot::from(place);
     Words {
         first: join_first(
             stage,
@@ -386,15 +356,15 @@ fn encode_taking(cpu: u8, stage: Taking) -> Words
     ensures { Encodes (fields_of (Record.Get cpu stage)) result }
 {
     match stage {
-        Taking::Own(order) => held(1, cpu, order, nowhere(), 0),
+        Taking::Own(order) => held(1, cpu, order, NOWHERE, 0),
         Taking::TakeCount { order, tree } => held(2, cpu, order, tree_spot(tree), 0),
         Taking::FillEntry { order, tree, hand } => held(3, cpu, order, tree_spot(tree), hand),
         Taking::ReturnHand { order, tree, hand } => held(4, cpu, order, tree_spot(tree), hand),
         Taking::LookAgain { order, tree } => held(5, cpu, order, tree_spot(tree), 0),
-        Taking::Release { order, place } => held(6, cpu, order, place_spot(place), 0),
-        Taking::Unreserve { order, place, hand } => held(7, cpu, order, place_spot(place), hand),
-        Taking::Try { order, pass } => held(8, cpu, order, pass_spot(pass), 0),
-        Taking::Write { order, found, hand } => held(9, cpu, order, found_spot(found), hand),
+        Taking::Release { order, place } => held(6, cpu, order, Spot::from(place), 0),
+        Taking::Unreserve { order, place, hand } => held(7, cpu, order, Spot::from(place), hand),
+        Taking::Try { order, pass } => held(8, cpu, order, Spot::from(pass), 0),
+        Taking::Write { order, found, hand } => held(9, cpu, order, Spot::from(found), hand),
         Taking::Steal { order, from } => held(10, cpu, order, from_spot(from), 0),
         Taking::StealCount {
             order,
@@ -405,7 +375,7 @@ fn encode_taking(cpu: u8, stage: Taking) -> Words
             11,
             cpu,
             order,
-            found_spot(Found::Steal { from, tree }),
+            Spot::from(Found::Steal { from, tree }),
             hand,
         ),
         Taking::Child {
@@ -428,8 +398,8 @@ fn encode_taking(cpu: u8, stage: Taking) -> Words
             child,
         } => searched(14, cpu, Order::Run(run), place, start, child, 0),
         Taking::Last(block) => blocked(15, cpu, block),
-        Taking::Fail { order, place } => held(16, cpu, order, place_spot(place), 0),
-        Taking::NoRoom => held(17, cpu, Order::Run(Run::One), nowhere(), 0),
+        Taking::Fail { order, place } => held(16, cpu, order, Spot::from(place), 0),
+        Taking::NoRoom => held(17, cpu, Order::Run(Run::One), NOWHERE, 0),
     }
 }
 
@@ -451,8 +421,8 @@ fn encode_creating(stage: Creating) -> Words
         Creating::Words(at) => numbered(22, at),
         Creating::Children(huge) => numbered(23, huge.0),
         Creating::Trees(tree) => held(24, 0, Order::Run(Run::One), tree_spot(tree), 0),
-        Creating::Cpus(cpu) => held(25, cpu, Order::Run(Run::One), nowhere(), 0),
-        Creating::Header => held(26, 0, Order::Run(Run::One), nowhere(), 0),
+        Creating::Cpus(cpu) => held(25, cpu, Order::Run(Run::One), NOWHERE, 0),
+        Creating::Header => held(26, 0, Order::Run(Run::One), NOWHERE, 0),
     }
 }
 
@@ -462,7 +432,7 @@ fn encode_opening(stage: Opening) -> Words
     match stage {
         Opening::Children(huge) => numbered(27, huge.0),
         Opening::Trees(tree) => held(28, 0, Order::Run(Run::One), tree_spot(tree), 0),
-        Opening::Cpus(cpu) => held(29, cpu, Order::Run(Run::One), nowhere(), 0),
+        Opening::Cpus(cpu) => held(29, cpu, Order::Run(Run::One), NOWHERE, 0),
     }
 }
 
@@ -471,7 +441,7 @@ pub fn encode(rec: Record) -> Words
     ensures { (result ≡ encode rec) × (decode result ≡ rec) }
 {
     match rec {
-        Record::Finished => held(0, 0, Order::Run(Run::One), nowhere(), 0),
+        Record::Finished => held(0, 0, Order::Run(Run::One), NOWHERE, 0),
         Record::Get { cpu, stage } => encode_taking(cpu, stage),
         Record::Put { cpu, stage } => encode_giving(cpu, stage),
         Record::Create(stage) => encode_creating(stage),
@@ -487,8 +457,7 @@ fn taking_at(head: Head, second: u64) -> Taking
     let order = order_at(head.order);
     let tail = split_second(second);
     let tree = Tree(tail.tree);
-    let stage = head.stage;
-    match stage {
+    match head.stage {
         1 => Taking::Own(order),
         2 => Taking::TakeCount { order, tree },
         3 => Taking::FillEntry {
@@ -561,8 +530,7 @@ fn taking_at(head: Head, second: u64) -> Taking
 fn giving_at(head: Head, second: u64) -> Giving
     ensures { result ≡ giving_at head second }
 {
-    let stage = head.stage;
-    match stage {
+    match head.stage {
         18 => Giving::Clear(block_at(head.order, second)),
         19 => Giving::Raise {
             run: rules::run_of(head.order as u64),
@@ -576,8 +544,7 @@ fn giving_at(head: Head, second: u64) -> Giving
 fn creating_at(head: Head, second: u64) -> Creating
     ensures { result ≡ creating_at head (tail_of second) second }
 {
-    let stage = head.stage;
-    match stage {
+    match head.stage {
         22 => Creating::Words(short(second)),
         23 => Creating::Children(Huge(short(second))),
         24 => Creating::Trees(Tree(split_second(second).tree)),
@@ -589,8 +556,7 @@ fn creating_at(head: Head, second: u64) -> Creating
 fn opening_at(head: Head, second: u64) -> Opening
     ensures { result ≡ opening_at head (tail_of second) second }
 {
-    let stage = head.stage;
-    match stage {
+    match head.stage {
         27 => Opening::Children(Huge(short(second))),
         28 => Opening::Trees(Tree(split_second(second).tree)),
         _ => Opening::Cpus(head.cpu),
@@ -602,26 +568,19 @@ fn read(words: Words) -> Record
     ensures { result ≡ read words }
 {
     let head = split_first(words.first);
-    let stage = head.stage;
-    if stage == 0 {
-        return Record::Finished;
-    }
-    if stage < 18 {
-        return Record::Get {
+    match head.stage {
+        0 => Record::Finished,
+        1..=17 => Record::Get {
             cpu: head.cpu,
             stage: taking_at(head, words.second),
-        };
-    }
-    if stage < 22 {
-        return Record::Put {
+        },
+        18..=21 => Record::Put {
             cpu: head.cpu,
             stage: giving_at(head, words.second),
-        };
+        },
+        22..=26 => Record::Create(creating_at(head, words.second)),
+        _ => Record::Open(opening_at(head, words.second)),
     }
-    if stage < 27 {
-        return Record::Create(creating_at(head, words.second));
-    }
-    Record::Open(opening_at(head, words.second))
 }
 
 // ---- the encoding of what is read, from the words
@@ -632,28 +591,27 @@ fn again_taking(head: Head, second: u64) -> Words
     let order = order_at(head.order);
     let tail = split_second(second);
     let tree = Tree(tail.tree);
-    let stage = head.stage;
     let cpu = head.cpu;
-    match stage {
-        1 => held(1, cpu, order, nowhere(), 0),
+    match head.stage {
+        1 => held(1, cpu, order, NOWHERE, 0),
         2 => held(2, cpu, order, tree_spot(tree), 0),
         3 => held(3, cpu, order, tree_spot(tree), tail.hand),
         4 => held(4, cpu, order, tree_spot(tree), tail.hand),
         5 => held(5, cpu, order, tree_spot(tree), 0),
-        6 => held(6, cpu, order, place_spot(place_at(head.kind, tail)), 0),
+        6 => held(6, cpu, order, Spot::from(place_at(head.kind, tail)), 0),
         7 => held(
             7,
             cpu,
             order,
-            place_spot(place_at(head.kind, tail)),
+            Spot::from(place_at(head.kind, tail)),
             tail.hand,
         ),
-        8 => held(8, cpu, order, pass_spot(pass_at(head.kind, tail)), 0),
+        8 => held(8, cpu, order, Spot::from(pass_at(head.kind, tail)), 0),
         9 => held(
             9,
             cpu,
             order,
-            found_spot(found_at(head.kind, tail)),
+            Spot::from(found_at(head.kind, tail)),
             tail.hand,
         ),
         10 => held(10, cpu, order, from_spot(tail.from), 0),
@@ -661,7 +619,7 @@ fn again_taking(head: Head, second: u64) -> Words
             11,
             cpu,
             order,
-            found_spot(Found::Steal {
+            Spot::from(Found::Steal {
                 from: tail.from,
                 tree,
             }),
@@ -695,17 +653,16 @@ fn again_taking(head: Head, second: u64) -> Words
             0,
         ),
         15 => blocked(15, cpu, block_at(head.order, second)),
-        16 => held(16, cpu, order, place_spot(place_at(head.kind, tail)), 0),
-        _ => held(17, cpu, Order::Run(Run::One), nowhere(), 0),
+        16 => held(16, cpu, order, Spot::from(place_at(head.kind, tail)), 0),
+        _ => held(17, cpu, Order::Run(Run::One), NOWHERE, 0),
     }
 }
 
 fn again_giving(head: Head, second: u64) -> Words
     ensures { Encodes (fields_of (Record.Put head.cpu (giving_at head second))) result }
 {
-    let stage = head.stage;
     let cpu = head.cpu;
-    match stage {
+    match head.stage {
         18 => blocked(18, cpu, block_at(head.order, second)),
         19 => blocked(
             19,
@@ -724,20 +681,13 @@ fn again(words: Words) -> Words
     ensures { result ≡ encode (read words) }
 {
     let head = split_first(words.first);
-    let stage = head.stage;
-    if stage == 0 {
-        return held(0, 0, Order::Run(Run::One), nowhere(), 0);
+    match head.stage {
+        0 => held(0, 0, Order::Run(Run::One), NOWHERE, 0),
+        1..=17 => again_taking(head, words.second),
+        18..=21 => again_giving(head, words.second),
+        22..=26 => encode_creating(creating_at(head, words.second)),
+        _ => encode_opening(opening_at(head, words.second)),
     }
-    if stage < 18 {
-        return again_taking(head, words.second);
-    }
-    if stage < 22 {
-        return again_giving(head, words.second);
-    }
-    if stage < 27 {
-        return encode_creating(creating_at(head, words.second));
-    }
-    encode_opening(opening_at(head, words.second))
 }
 
 // The record that two words are the encoding of. Words that are no record's are read as the finished one, which every step refuses with 11.
@@ -747,10 +697,7 @@ pub fn decode(first: u64, second: u64) -> Record
     let words = Words { first, second };
     let rec = read(words);
     let made = again(words);
-    if made.first != first {
-        return Record::Finished;
-    }
-    if made.second != second {
+    if made != words {
         return Record::Finished;
     }
     rec

@@ -1,4 +1,5 @@
 -- A get that runs alone: what it has ruled out at each stage. A tree is bare if none of its children has a free block of the get's size.
+use Rattle.std.specs.Prelude.{Option, Some, None}
 use mathlib.Core.Path.{◌≡◌, refl, sym, ap, ◌∙◌, subst}
 use mathlib.Core.Logic.{◌≢◌}
 use mathlib.Core.List.{List}
@@ -56,7 +57,7 @@ module _ (g : Shape) (j : ℕ) (o : Order) (z : Zone) where
 
   -- each of the first k CPUs but the own has no entry
   abbrev pub Gone : ℕ → Type 0
-  Gone k = (i : ℕ) → i < k → i < g.cpus → i ≢ j → entry_at g z.cpus i ≡ CpuEntry.Absent
+  Gone k = (i : ℕ) → i < k → i < g.cpus → i ≢ j → entry_at g z.cpus i ≡ Some CpuEntry.Absent
 
   -- the children from s on up to c, which the search has passed
   abbrev pub Passed : ℕ → ℕ → ℕ → Type 0
@@ -107,7 +108,7 @@ module _ (g : Shape) (j : ℕ) (o : Order) (z : Zone) where
 
   pub steal_next : (i : ℕ) → Trees (trees_of g) → Gone i → So (pick (ltb (skip j i) g.cpus) (Taking.Steal o (skip j i)) Taking.NoRoom)
   steal_next i t h =
-      let gone : Gone (skip j i) = λ k l m n. pick_elim (λ y. k < y → entry_at g z.cpus k ≡ CpuEntry.Absent) (eqb i j) (λ e x. h k (let q = eqb-true i j e in let r : k ≢ i = λ y. n (y ∙ q) in omega arith) m n) (λ e x. h k x m n) l in
+      let gone : Gone (skip j i) = λ k l m n. pick_elim (λ y. k < y → entry_at g z.cpus k ≡ Some CpuEntry.Absent) (eqb i j) (λ e x. h k (let q = eqb-true i j e in let r : k ≢ i = λ y. n (y ∙ q) in omega arith) m n) (λ e x. h k x m n) l in
       pick_elim So (ltb (skip j i) g.cpus) (λ e. (t, gone)) (λ e. let q = ltb-false (skip j i) g.cpus e in (t, λ k l m n. gone k (omega arith) m n))
 
   trees_next : (t : ℕ) → Trees t → Bare t → Trees (suc t)
@@ -222,11 +223,11 @@ module _ (g : Shape) (j : ℕ) (o : Order) (z z' : Zone) where
 
 -- ---- counts, where nobody else is under way
 
-none_shares : (t : ℕ) (e : CpuEntry) → has t e ≡ 0 → share t e ≡ 0
+none_shares : (t : ℕ) (e : Option CpuEntry) → has t e ≡ 0 → share t e ≡ 0
 unfolding has share by_cpu
-none_shares t CpuEntry.Damaged h = refl
-none_shares t CpuEntry.Absent h = refl
-none_shares t (CpuEntry.Holds v s k) h = elim (placed v.0 1 t) [
+none_shares t None h = refl
+none_shares t (Some CpuEntry.Absent) h = refl
+none_shares t (Some (CpuEntry.Holds v s k)) h = elim (placed v.0 1 t) [
   | here e q ↦ absurd (omega arith)
   | elsewhere e q ↦ at_other v.0 k t e
 ]
@@ -258,6 +259,6 @@ module _ (n : ℕ) (z : Zone) (cs : ℕ → Cpu) (held lost : List Block) (u : U
   bare o t h c m = short_count (size o) z.children z.words (t * per_tree g + c) (omega (arith, sum_part (children_of g t) (λ i. free_of z.children z.words (t * per_tree g + i)) c m))
 
   -- with every entry absent and nothing reserved by the get no tree is reserved
-  pub none_reserved : (t : ℕ) → t < trees_of g → reserves (cs j).latest t ≡ 0 → ((i : ℕ) → i < C → entry_at g z.cpus i ≡ CpuEntry.Absent) → flag_at z.trees t ≡ 0
+  pub none_reserved : (t : ℕ) → t < trees_of g → reserves (cs j).latest t ≡ 0 → ((i : ℕ) → i < C → entry_at g z.cpus i ≡ Some CpuEntry.Absent) → flag_at z.trees t ≡ 0
   unfolding has by_cpu
   none_reserved t h e a = omega (arith, u.upper.flags t h, own_reserves t, sum_zero C (λ i. has t (entry_at g z.cpus i)) (λ i m. ap (has t) (a i m)))

@@ -1,4 +1,5 @@
 -- The step bounds, by the measure that falls.
+use Rattle.std.specs.Prelude.{Option}
 use mathlib.Core.Path.{◌≡◌, refl, ap, subst}
 use mathlib.Core.Bool.{false, not}
 use Prim.Native.Nat.{ℕ, zero, suc, ◌+◌, ◌*◌, ◌/◌, ◌%◌, ◌≤◌, ◌<◌}
@@ -28,7 +29,7 @@ pub header_sized : (x : ℕ) → is_malformed (header_says x) ≡ false → (0 <
 unfolding header_says is_malformed header_huge
 header_sized x =
     let n : ℕ = field header_layout 3 x in
-    let Q : Header → Type 0 = λ h. is_malformed h ≡ false → (0 < header_huge h) × (header_huge h ≤ most_huge) in
+    let Q : Option Header → Type 0 = λ h. is_malformed h ≡ false → (0 < header_huge h) × (header_huge h ≤ most_huge) in
     pick_elim Q (passes (header_checks x))
     (λ b.
     let p = all_passed (header_checks x) b in

@@ -1,4 +1,5 @@
 -- One child entry by what it says; one child's field of words: its zero bits by frame, and a run of one word's bits set.
+use Rattle.std.specs.Prelude.{Option, Some, None}
 use mathlib.Core.Path.{◌≡◌, refl, sym, ap, ap₂, ◌∙◌}
 use mathlib.Core.Logic.{◌≢◌}
 use mathlib.Core.Bool.{true, false}
@@ -24,45 +25,45 @@ use Rattle.rules.proofs.Layouts.{count_again, ChildView, child_view}
 
 -- ---- an entry
 
-pub counts_entry : (x k : ℕ) → child_says x ≡ ChildEntry.Counts k → (well_formed x ≡ true) × (is_flagged x ≡ false) × (count_in x ≡ k)
+pub counts_entry : (x k : ℕ) → child_says x ≡ Some (ChildEntry.Counts k) → (well_formed x ≡ true) × (is_flagged x ≡ false) × (count_in x ≡ k)
 unfolding well_formed is_flagged count_in by_child
 counts_entry x k e = rw e (refl, refl, refl)
 
-pub flagged_entry : (x : ℕ) → child_says x ≡ ChildEntry.Flagged → (well_formed x ≡ true) × (is_flagged x ≡ true) × (count_in x ≡ 0)
+pub flagged_entry : (x : ℕ) → child_says x ≡ (Some ChildEntry.Flagged) → (well_formed x ≡ true) × (is_flagged x ≡ true) × (count_in x ≡ 0)
 unfolding well_formed is_flagged count_in by_child
 flagged_entry x e = rw e (refl, refl, refl)
 
-pub count_fits : (x k : ℕ) → child_says x ≡ ChildEntry.Counts k → k ≤ child_frames
+pub count_fits : (x k : ℕ) → child_says x ≡ Some (ChildEntry.Counts k) → k ≤ child_frames
 count_fits x k = go (child_says x) (child_view x)
   where
-    go : (e : ChildEntry) → ChildView x e → e ≡ ChildEntry.Counts k → k ≤ child_frames
-    go ChildEntry.Damaged (ChildView.broken q) e = let z : ◌≡◌ {A = ℕ} 0 1 = cc in absurd (omega arith)
-    go (ChildEntry.Counts i) (ChildView.counts p) e = let q : i ≡ k = cc in omega (arith, p.1.1.0)
-    go ChildEntry.Flagged (ChildView.flagged p) e = let z : ◌≡◌ {A = ℕ} 0 1 = cc in absurd (omega arith)
+    go : (e : Option ChildEntry) → ChildView x e → e ≡ Some (ChildEntry.Counts k) → k ≤ child_frames
+    go None (ChildView.broken q) e = let z : ◌≡◌ {A = ℕ} 0 1 = cc in absurd (omega arith)
+    go (Some (ChildEntry.Counts i)) (ChildView.counts p) e = let q : i ≡ k = cc in omega (arith, p.1.1.0)
+    go (Some ChildEntry.Flagged) (ChildView.flagged p) e = let z : ◌≡◌ {A = ℕ} 0 1 = cc in absurd (omega arith)
 
 -- an entry counts a child's frames at most
 pub count_few : (x : ℕ) → count_in x ≤ child_frames
 unfolding count_in by_child
 count_few x = go (child_says x) refl
   where
-    go : (e : ChildEntry) → child_says x ≡ e → by_child e 0 (λ k. k) 0 ≤ child_frames
-    go ChildEntry.Damaged e = omega arith
-    go (ChildEntry.Counts k) e = count_fits x k e
-    go ChildEntry.Flagged e = omega arith
+    go : (e : Option ChildEntry) → child_says x ≡ e → by_child e 0 (λ k. k) 0 ≤ child_frames
+    go None e = omega arith
+    go (Some (ChildEntry.Counts k)) e = count_fits x k e
+    go (Some ChildEntry.Flagged) e = omega arith
 
 -- a well-formed entry says one of two things
 pub data Says (x : ℕ) : Type 0 where
-  counts : (k : ℕ) → child_says x ≡ ChildEntry.Counts k → Says x
-  flagged : child_says x ≡ ChildEntry.Flagged → Says x
+  counts : (k : ℕ) → child_says x ≡ Some (ChildEntry.Counts k) → Says x
+  flagged : child_says x ≡ (Some ChildEntry.Flagged) → Says x
 
 pub says : (x : ℕ) → well_formed x ≡ true → Says x
 unfolding well_formed by_child
 says x = go (child_says x) refl
   where
-    go : (e : ChildEntry) → child_says x ≡ e → by_child e false (λ k. true) true ≡ true → Says x
-    go ChildEntry.Damaged q h = true_false (sym h)
-    go (ChildEntry.Counts k) q h = counts k q
-    go ChildEntry.Flagged q h = flagged q
+    go : (e : Option ChildEntry) → child_says x ≡ e → by_child e false (λ k. true) true ≡ true → Says x
+    go None q h = true_false (sym h)
+    go (Some (ChildEntry.Counts k)) q h = counts k q
+    go (Some ChildEntry.Flagged) q h = flagged q
 
 -- the flag alone, the first of the entry's 16 bits
 flag_field : (x : ℕ) → field child_layout 0 x ≡ x / 2 ^ 15 % 2
@@ -73,10 +74,10 @@ pub flag_bit : (x : ℕ) → well_formed x ≡ true → eqb (x / 2 ^ 15 % 2) 1 �
 unfolding well_formed is_flagged by_child
 flag_bit x = go (child_says x) (child_view x)
   where
-    go : (e : ChildEntry) → ChildView x e → by_child e false (λ k. true) true ≡ true → eqb (x / 2 ^ 15 % 2) 1 ≡ by_child e false (λ k. false) true
-    go ChildEntry.Damaged (ChildView.broken q) h = true_false (sym h)
-    go (ChildEntry.Counts i) (ChildView.counts p) h = ap (λ y. eqb y 1) (sym (flag_field x) ∙ p.0)
-    go ChildEntry.Flagged (ChildView.flagged p) h = ap (λ y. eqb y 1) (sym (flag_field x) ∙ p.0)
+    go : (e : Option ChildEntry) → ChildView x e → by_child e false (λ k. true) true ≡ true → eqb (x / 2 ^ 15 % 2) 1 ≡ by_child e false (λ k. false) true
+    go None (ChildView.broken q) h = true_false (sym h)
+    go (Some (ChildEntry.Counts i)) (ChildView.counts p) h = ap (λ y. eqb y 1) (sym (flag_field x) ∙ p.0)
+    go (Some ChildEntry.Flagged) (ChildView.flagged p) h = ap (λ y. eqb y 1) (sym (flag_field x) ∙ p.0)
 
 -- a recount keeps the flag; without a flag the count is the new one
 pub recounted : (z x : ℕ) → z ≤ child_frames → well_formed x ≡ true → (well_formed (recount z x) ≡ true) × (is_flagged (recount z x) ≡ is_flagged x) × (count_in (recount z x) ≡ pick (is_flagged x) 0 z)

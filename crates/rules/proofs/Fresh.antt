@@ -1,4 +1,5 @@
 -- A zone not yet made; open run to its end or cut on the way: table after table becomes what open leaves; and the runs together.
+use Rattle.std.specs.Prelude.{Some}
 use mathlib.Core.Path.{◌≡◌, refl, sym, ap, ◌∙◌}
 use mathlib.Core.Bool.{Bool, true, false, not}
 use mathlib.Core.List.{List, [], ◌∷◌}
@@ -82,7 +83,7 @@ accepts z = guarded_elim (λ (p : Plan). number p.answer ≡ 1 → Accepts z) _ 
       plan = guarded_none _ _ n;
     })
 
-pub header_is : (z : Zone) (n : ℕ) → (0 < n) × (n ≤ most_huge) → z.header ≡ header_word running n ∷ [] → header_of z ≡ Header.Running n
+pub header_is : (z : Zone) (n : ℕ) → (0 < n) × (n ≤ most_huge) → z.header ≡ header_word running n ∷ [] → header_of z ≡ Some (Header.Running n)
 unfolding header_of
 header_is z n h e = rw e (running_again n h.0 h.1)
 

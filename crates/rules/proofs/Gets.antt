@@ -1,4 +1,5 @@
 -- Every step of a get keeps the invariant: each stage is one kind of store.
+use Rattle.std.specs.Prelude.{Option, Some, Result, Ok}
 use mathlib.Core.Path.{◌≡◌, refl, sym, ap, ◌∙◌, subst}
 use mathlib.Core.Bool.{◌&&◌}
 use mathlib.Core.List.{List, [], ◌∷◌, ◌++◌}
@@ -15,7 +16,7 @@ use Rattle.laws.proofs.Tests.{pick_elim, and_both, passes_left, passes_right, pa
 use Rattle.laws.specs.Words.{ones, lowest}
 use Rattle.laws.proofs.Words.{lowest_free}
 use Rattle.laws.proofs.Sum.{at_same, at_add, at_none}
-use Rattle.rules.specs.Types.{Tree, Run, Order, Block, ChildEntry, CpuEntry, Took, Bit, Pass, Found, Place, Taking, Record, Answer}
+use Rattle.rules.specs.Types.{Tree, Run, Order, Block, ChildEntry, CpuEntry, Took, Pass, Found, Place, Taking, Record, Answer, Fault}
 use Rattle.rules.specs.Numbers.{child_frames, child_words, word_bits, Shape, per_tree, trees_of, children_of, capacity}
 use Rattle.rules.specs.Conversions.{tree, huge, frame}
 use Rattle.rules.specs.Blocks.{run_size, size, frame_at, first_of, block_at, tree_of_block, child_of_block, huge_of_block}
@@ -55,17 +56,17 @@ at_place g j o Q a b c (Place.Found (Found.Steal i t)) = pick_elim Q _ (λ e. b 
 split_at : (t k a b x : ℕ) → a + b ≡ k → at t a x + at t b x ≡ at t k x
 split_at t k a b x e = sym (at_add t a b x) ∙ ap (λ y. at t y x) e
 
-absent_holds : {A : Type 0} (e : CpuEntry) (t : Tree) (s k : ℕ) → e ≡ CpuEntry.Absent → e ≡ CpuEntry.Holds t s k → A
+absent_holds : {A : Type 0} (e : Option CpuEntry) (t : Tree) (s k : ℕ) → e ≡ Some CpuEntry.Absent → e ≡ Some (CpuEntry.Holds t s k) → A
 absent_holds e t s k p q = let z : ◌≡◌ {A = ℕ} 0 1 = cc in absurd (omega arith)
 
-same_tree : (e : CpuEntry) (t v : Tree) (s s' k k' : ℕ) → e ≡ CpuEntry.Holds t s k → e ≡ CpuEntry.Holds v s' k' → v ≡ t
+same_tree : (e : Option CpuEntry) (t v : Tree) (s s' k k' : ℕ) → e ≡ Some (CpuEntry.Holds t s k) → e ≡ Some (CpuEntry.Holds v s' k') → v ≡ t
 same_tree e t v s s' k k' p q = cc
 
 module _ (n : ℕ) (z : Zone) (cs : ℕ → Cpu) (held lost : List Block) (u : Up n z cs held lost) (j : ℕ) (l : j < length z.cpus) where
   abbrev g : Shape
   g = shaped n z
 
-  abbrev E : CpuEntry
+  abbrev E : Option CpuEntry
   E = entry_at g z.cpus j
 
   module _ (s : Taking) (e : (cs j).latest ≡ Record.Get j s) where
@@ -117,7 +118,7 @@ module _ (n : ℕ) (z : Zone) (cs : ℕ → Cpu) (held lost : List Block) (u : U
     -- the own entry holds tree t with count k
     store_holds : (t : Tree) (b k : ℕ) (s' : Taking) → Passes (holds_checks g t b k) → Next s'
         → ((x : ℕ) → at t.0 k x + owed g (Record.Get j s') x ≡ share x E + owed g (Record.Get j s) x) → ((x : ℕ) → at t.0 1 x + reserves (Record.Get j s') x ≡ has x E + reserves (Record.Get j s) x)
-        → Wanted (want (Record.Get j s')) (CpuEntry.Holds t b k) → Kept (to_cpu g j (store (CpuEntry.Holds t b k) (get g j s')))
+        → Wanted (want (Record.Get j s')) (Some (CpuEntry.Holds t b k)) → Kept (to_cpu g j (store (CpuEntry.Holds t b k) (get g j s')))
     unfolding share has by_cpu
     store_holds t b k s' c x o v w = rw (holds_plan g j t b k _ c) (own_kept n z cs held lost u j l _ e (CpuEntry.Holds t b k) _ (fine_goes _ s' x.0 x.1 x.2 x.3) x.4 (holds_again g t b k format1_sound u.small c) (λ q. let y : ◌≡◌ {A = ℕ} 0 1 = cc in omega arith) o v w)
 
@@ -125,7 +126,7 @@ module _ (n : ℕ) (z : Zone) (cs : ℕ → Cpu) (held lost : List Block) (u : U
     store_absent : (s' : Taking) → Next s' → ((x : ℕ) → owed g (Record.Get j s') x ≡ share x E + owed g (Record.Get j s) x) → ((x : ℕ) → reserves (Record.Get j s') x ≡ has x E + reserves (Record.Get j s) x)
         → Kept (to_cpu g j (store CpuEntry.Absent (get g j s')))
     unfolding share has by_cpu
-    store_absent s' x o v = rw (absent_plan g j _) (own_kept n z cs held lost u j l _ e CpuEntry.Absent _ (fine_goes _ s' x.0 x.1 x.2 x.3) x.4 (absent_again g) (λ q. let y : ◌≡◌ {A = ℕ} 0 1 = cc in omega arith) (λ t. zero-add _ ∙ o t) (λ t. zero-add _ ∙ v t) (absent_wanted (want (Record.Get j s')) CpuEntry.Absent refl))
+    store_absent s' x o v = rw (absent_plan g j _) (own_kept n z cs held lost u j l _ e CpuEntry.Absent _ (fine_goes _ s' x.0 x.1 x.2 x.3) x.4 (absent_again g) (λ q. let y : ◌≡◌ {A = ℕ} 0 1 = cc in omega arith) (λ t. zero-add _ ∙ o t) (λ t. zero-add _ ∙ v t) (absent_wanted (want (Record.Get j s')) (Some CpuEntry.Absent) refl))
 
     -- tree t's entry
     store_tree : (t : Tree) (b k : ℕ) (s' : Taking) → Next s' → t.0 < trees_of g → b < 2 → k ≤ capacity g t.0 → ((x : ℕ) → at t.0 k x + owed g (Record.Get j s') x ≡ at t.0 (tally_at z.trees t.0) x + owed g (Record.Get j s) x)
@@ -152,31 +153,31 @@ module _ (n : ℕ) (z : Zone) (cs : ℕ → Cpu) (held lost : List Block) (u : U
   unfolding owed reserves
   place_owes o p x = at_place g j o (λ s'. (owed g (Record.Get j s') x ≡ 0) × (reserves (Record.Get j s') x ≡ 0)) (λ q. (refl, refl)) (λ i. (refl, refl)) (refl, refl) p
 
-  place_wants : (o : Order) (p : Place) → E ≡ CpuEntry.Absent → Wanted (want (Record.Get j (after_place g j o p))) E
+  place_wants : (o : Order) (p : Place) → E ≡ Some CpuEntry.Absent → Wanted (want (Record.Get j (after_place g j o p))) E
   place_wants o p h = at_place g j o (λ s'. Wanted (want (Record.Get j s')) E) (λ q. h) (λ i. h) h p
 
   -- what the own entry says of a tree, where it holds one
-  held_share : (t : Tree) (b k x : ℕ) → E ≡ CpuEntry.Holds t b k → share x E ≡ at t.0 k x
+  held_share : (t : Tree) (b k x : ℕ) → E ≡ Some (CpuEntry.Holds t b k) → share x E ≡ at t.0 k x
   unfolding share by_cpu
   held_share t b k x h = ap (share x) h
 
-  held_has : (t : Tree) (b k x : ℕ) → E ≡ CpuEntry.Holds t b k → has x E ≡ at t.0 1 x
+  held_has : (t : Tree) (b k x : ℕ) → E ≡ Some (CpuEntry.Holds t b k) → has x E ≡ at t.0 1 x
   unfolding has by_cpu
   held_has t b k x h = ap (has x) h
 
-  none_share : (x : ℕ) → E ≡ CpuEntry.Absent → share x E ≡ 0
+  none_share : (x : ℕ) → E ≡ Some CpuEntry.Absent → share x E ≡ 0
   unfolding share by_cpu
   none_share x h = ap (share x) h
 
-  none_has : (x : ℕ) → E ≡ CpuEntry.Absent → has x E ≡ 0
+  none_has : (x : ℕ) → E ≡ Some CpuEntry.Absent → has x E ≡ 0
   unfolding has by_cpu
   none_has x h = ap (has x) h
 
-  mine_is : (t : Tree) (b k : ℕ) → E ≡ CpuEntry.Holds t b k → Wanted (mine t) E
+  mine_is : (t : Tree) (b k : ℕ) → E ≡ Some (CpuEntry.Holds t b k) → Wanted (mine t) E
   mine_is t b k h = λ v b' k' q. same_tree E t v b b' k k' h q
 
   -- rule 1: the claim
-  claims : (s : Taking) (e : (cs j).latest ≡ Record.Get j s) (o : Order) (t : Tree) (b k : ℕ) → E ≡ CpuEntry.Holds t b k → Passes (holds_checks g t b k) → size o ≤ k → ((q : Order) → OfOrder s q → o ≡ q)
+  claims : (s : Taking) (e : (cs j).latest ≡ Record.Get j s) (o : Order) (t : Tree) (b k : ℕ) → E ≡ Some (CpuEntry.Holds t b k) → Passes (holds_checks g t b k) → size o ≤ k → ((q : Order) → OfOrder s q → o ≡ q)
       → owned_by (Record.Get j s) ≡ [] → ((x : ℕ) → low_of g (Record.Get j s) x ≡ 0) → ((x : ℕ) → owed g (Record.Get j s) x ≡ 0) → ((x : ℕ) → reserves (Record.Get j s) x ≡ 0) → Kept s e (to_cpu g j (claim_own g j o t b k))
   unfolding claim_own low_of owed reserves taking_in place_in
   claims s e o t b k h p c f w low ow rs = store_holds s e t b (k - size o) (Taking.Child o (Place.Own t) b b) (p.0, (p.1.0, (omega (arith, p.1.1.0), tt)))
@@ -194,8 +195,8 @@ module _ (n : ℕ) (z : Zone) (cs : ℕ → Cpu) (held lost : List Block) (u : U
       (λ c. look_on (Taking.Own o) e j (Taking.TakeCount o t) ((p.0, tt), tt, (λ k x. x), refl, λ x. refl) (λ x. refl) (λ x. refl) (mine_is t b k h)))
 
   -- the own entry holds tree t, or it is absent
-  read_own : (s : Taking) (e : (cs j).latest ≡ Record.Get j s) (t : Tree) (f : ℕ → ℕ → Made CpuEntry) (a : Made CpuEntry) → Wanted (mine t) E → (E ≡ CpuEntry.Absent → Kept s e (to_cpu g j a))
-      → ((b k : ℕ) → E ≡ CpuEntry.Holds t b k → Passes (holds_checks g t b k) → Kept s e (to_cpu g j (f b k))) → Kept s e (carried g z (if_own_holds g j t f a))
+  read_own : (s : Taking) (e : (cs j).latest ≡ Record.Get j s) (t : Tree) (f : ℕ → ℕ → Made CpuEntry) (a : Made CpuEntry) → Wanted (mine t) E → (E ≡ Some CpuEntry.Absent → Kept s e (to_cpu g j a))
+      → ((b k : ℕ) → E ≡ Some (CpuEntry.Holds t b k) → Passes (holds_checks g t b k) → Kept s e (to_cpu g j (f b k))) → Kept s e (carried g z (if_own_holds g j t f a))
   read_own s e t f a w x y = read_cpu n z cs held lost u (Kept s e) j _ _ l x (λ v b k h p. pick_elim (λ (m : Made CpuEntry). Kept s e (to_cpu g j m)) (eqb v.0 t.0)
       (λ c. let q : v ≡ t = w v b k h in y b k (rw q at h) (subst (λ i. Passes (holds_checks g i b k)) q p))
       (λ c. absurd (eqb-false _ _ c (ap (λ (i : Tree). i.0) (w v b k h)))))
@@ -236,7 +237,7 @@ module _ (n : ℕ) (z : Zone) (cs : ℕ → Cpu) (held lost : List Block) (u : U
       (λ x. add-zero _ ∙ at_add t.0 k h x) (λ x. refl) (wanted s e))
 
   -- rule 2: the release's first step, and the second
-  releases : (s : Taking) (e : (cs j).latest ≡ Record.Get j s) (o : Order) (p : Place) (b k : ℕ) → E ≡ CpuEntry.Holds (place_tree p) b k → Passes (holds_checks g (place_tree p) b k) → Passes (place_in g j p) → ((q : Order) → OfOrder s q → o ≡ q)
+  releases : (s : Taking) (e : (cs j).latest ≡ Record.Get j s) (o : Order) (p : Place) (b k : ℕ) → E ≡ Some (CpuEntry.Holds (place_tree p) b k) → Passes (holds_checks g (place_tree p) b k) → Passes (place_in g j p) → ((q : Order) → OfOrder s q → o ≡ q)
       → owned_by (Record.Get j s) ≡ [] → ((x : ℕ) → low_of g (Record.Get j s) x ≡ 0) → ((x : ℕ) → owed g (Record.Get j s) x ≡ 0) → ((x : ℕ) → reserves (Record.Get j s) x ≡ 0) → Kept s e (to_cpu g j (release g j o p k))
   unfolding release low_of owed reserves taking_in
   releases s e o p b k h c q f w low ow rs = store_absent s e (Taking.Unreserve o p k) (passes_both (place_in g j p) _ q (omega (arith, c.1.1.0), tt), tt, f, w, λ x. sym (low x))
@@ -400,8 +401,8 @@ module _ (n : ℕ) (z : Zone) (cs : ℕ → Cpu) (held lost : List Block) (u : U
       let t : Tree = place_tree p in
       let i : ℕ = t.0 * per_tree g + c in
       let x : ℕ = get_or z.children i 0 in
-      let Q : Lowered Took → Type 0 = λ y. Kept s e (to_child g t c (on_took y (get g j (Taking.Word v p b c 0)) plain (next_child g j (Order.Run v) p b c))) in
-      let pass : Q (told Took.Passed) = rw (passed_plan g t c (get g j (Taking.Word v p b c 0)) plain (next_child g j (Order.Run v) p b c)) (passes_child (Order.Run v) p b c e) in
+      let Q : Lowered (Result Took Fault) → Type 0 = λ y. Kept s e (to_child g t c (on_took y (get g j (Taking.Word v p b c 0)) plain (next_child g j (Order.Run v) p b c))) in
+      let pass : Q (told (Ok Took.Passed)) = rw (passed_plan g t c (get g j (Taking.Word v p b c 0)) plain (next_child g j (Order.Run v) p b c)) (passes_child (Order.Run v) p b c e) in
       read_child n z cs held lost u (Kept s e) t c _ q.1.0 (elim (child_is i (child_in_lem g (omega arith) t.0 c q.1.0)) [
         | counts k a ↦ subst Q (sym (claim_counts (run_size v) x k a)) (pick_elim Q (leb (run_size v) k)
             (λ d. let m : run_size v ≤ k = leb-true _ _ d in
@@ -423,12 +424,12 @@ module _ (n : ℕ) (z : Zone) (cs : ℕ → Cpu) (held lost : List Block) (u : U
       let x : ℕ = get_or z.children i 0 in
       let w : Block = Block.Whole (huge i) in
       let inside : i < n = child_in_lem g (omega arith) t.0 c q.1.0 in
-      let Q : Lowered Took → Type 0 = λ y. Kept s e (to_child g t c (on_took y (get g j (Taking.Last w)) (takes w) (next_child g j Order.Nine p b c))) in
-      let pass : Q (told Took.Passed) = rw (passed_plan g t c (get g j (Taking.Last w)) (takes w) (next_child g j Order.Nine p b c)) (passes_child Order.Nine p b c e) in
+      let Q : Lowered (Result Took Fault) → Type 0 = λ y. Kept s e (to_child g t c (on_took y (get g j (Taking.Last w)) (takes w) (next_child g j Order.Nine p b c))) in
+      let pass : Q (told (Ok Took.Passed)) = rw (passed_plan g t c (get g j (Taking.Last w)) (takes w) (next_child g j Order.Nine p b c)) (passes_child Order.Nine p b c e) in
       read_child n z cs held lost u (Kept s e) t c _ q.1.0 (elim (child_is i inside) [
         | counts k a ↦ subst Q (sym (huge_counts x k a)) (pick_elim Q (eqb k child_frames)
             (λ d. rw (taken_plan g t c flagged_word (get g j (Taking.Last w)) (takes w) (next_child g j Order.Nine p b c))
-            (flag_kept n z cs held lost u j l _ e t.0 c _ (fine_takes s e _ w (inside, tt) (λ k y. y)) (handed_none s e _) refl refl q.1.0 (a ∙ ap ChildEntry.Counts (eqb-true _ _ d)) (λ y. refl) (λ y. zero-add _) (λ y. refl) tt))
+            (flag_kept n z cs held lost u j l _ e t.0 c _ (fine_takes s e _ w (inside, tt) (λ k y. y)) (handed_none s e _) refl refl q.1.0 (a ∙ ap (λ k. Some (ChildEntry.Counts k)) (eqb-true _ _ d)) (λ y. refl) (λ y. zero-add _) (λ y. refl) tt))
             (λ d. pass))
         | flagged a ↦ subst Q (sym (huge_flagged x a)) pass
       ])
@@ -448,8 +449,8 @@ module _ (n : ℕ) (z : Zone) (cs : ℕ → Cpu) (held lost : List Block) (u : U
       let a : ℕ → Answer = λ y. get g j (Taking.Last (Block.Run v (frame_at g t c w y))) in
       let m : ℕ → Mark = λ y. takes (Block.Run v (frame_at g t c w y)) in
       let on : Answer = pick (ltb (suc w) child_words) (get g j (Taking.Word v p b c (suc w))) (get g j (Taking.GiveBack v p b c)) in
-      let Q : Lowered Bit → Type 0 = λ y. Kept s e (to_word g t (child_words * c + w) (on_bit y a m on)) in
-      let found : i < word_bits / r → Q (changed (Bit.At (r * i)) (x + ones r (r * i))) = λ y.
+      let Q : Lowered (Option ℕ) → Type 0 = λ y. Kept s e (to_word g t (child_words * c + w) (on_bit y a m on)) in
+      let found : i < word_bits / r → Q (changed (Some (r * i)) (x + ones r (r * i))) = λ y.
       let fits = run_at v i y in
       let inside : t.0 * per_tree g + c < n = child_in_lem g (omega arith) t.0 c q.1.0 in
       rw (bit_plan g t (child_words * c + w) (r * i) (x + ones r (r * i)) a m on, at-word)
@@ -516,7 +517,7 @@ module _ (n : ℕ) (z : Zone) (cs : ℕ → Cpu) (held lost : List Block) (u : U
       read_cpu n z cs held lost u (Kept s e) j _ _ l (λ a. none) (λ v c k a q. pick_elim (λ (m : Made CpuEntry). Kept s e (to_cpu g j m)) (eqb v.0 t.0)
       (λ d.
       let y : v ≡ t = ap tree (eqb-true v.0 t.0 d) in
-      let held_by : E ≡ CpuEntry.Holds t c k = a ∙ ap (λ i. CpuEntry.Holds i c k) y in
+      let held_by : E ≡ Some (CpuEntry.Holds t c k) = a ∙ ap (λ i. Some (CpuEntry.Holds i c k)) y in
       let r : Passes (holds_checks g t c k) = subst (λ i. Passes (holds_checks g i c k)) y q in
       let ok : Passes (holds_checks g t (child_of_block g b) k) = (r.0, (number_in g (omega arith) (huge_of_block b).0 (block_huge g b p), (r.1.1.0, tt))) in
       rw (holds_plan g j t (child_of_block g b) k (Answer.Done (first_of b)) ok)

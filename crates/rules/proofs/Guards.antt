@@ -1,5 +1,6 @@
 -- What is known where a plan goes on: of the refusals before it, of the entry read, of what the lower level said.
-use mathlib.Core.Path.{◌≡◌, refl}
+use Rattle.std.specs.Prelude.{Option, Some, None, Result, Ok, Err}
+use mathlib.Core.Path.{◌≡◌, refl, ap}
 use mathlib.Core.Bool.{false, not}
 use mathlib.Core.List.{List, [], ◌∷◌}
 use Prim.Native.Nat.{ℕ, ◌+◌, ◌*◌, ◌≤◌}
@@ -9,9 +10,9 @@ use lib.ListN.{get_or}
 use borrow.Author.Tests.{leb-true, le-leb, not-false}
 use Rattle.laws.specs.Tests.{pick, Check, passes, Passes}
 use Rattle.laws.proofs.Tests.{pick_elim, pick_yes, all_passed, passes_of}
-use Rattle.rules.specs.Types.{Tree, ChildEntry, TreeEntry, CpuEntry, Took, Bit, Gave, Answer}
+use Rattle.rules.specs.Types.{Tree, ChildEntry, TreeEntry, CpuEntry, Took, Fault, Answer}
 use Rattle.rules.specs.Numbers.{child_words, Shape, per_tree, capacity}
-use Rattle.rules.specs.Entries.{field, tree_layout, holds_checks, tree_says, cpu_says}
+use Rattle.rules.specs.Entries.{field, tree_layout, holds_checks, tree_says, cpu_says, tallied}
 use Rattle.rules.specs.Lower.{Change, keep, become, Lowered, told, changed, by_child}
 use Rattle.rules.specs.Zone.{Zone, Store, nothing, word, child, tree as tree_store, cpu, tree_entry_at, cpu_entry_at, child_part, word_part}
 use Rattle.rules.proofs.Layouts.{CpuView, broken_cpu, absent, holds, cpu_view}
@@ -36,23 +37,23 @@ pub not_refused : (l : List Check) → not (passes l) ≡ false → Passes l
 not_refused l e = all_passed l (not-false (passes l) e)
 
 -- ---- the entry read
-pub cpu_elim : {A : Type 0} (Q : A → Type 0) (e : CpuEntry) {d a : A} {f : Tree → ℕ → ℕ → A}
-    → (e ≡ CpuEntry.Damaged → Q d) → (e ≡ CpuEntry.Absent → Q a) → ((t : Tree) (s k : ℕ) → e ≡ CpuEntry.Holds t s k → Q (f t s k)) → Q (by_cpu e d a f)
+pub cpu_elim : {A : Type 0} (Q : A → Type 0) (e : Option CpuEntry) {d a : A} {f : Tree → ℕ → ℕ → A}
+    → (e ≡ None → Q d) → (e ≡ Some CpuEntry.Absent → Q a) → ((t : Tree) (s k : ℕ) → e ≡ Some (CpuEntry.Holds t s k) → Q (f t s k)) → Q (by_cpu e d a f)
 unfolding by_cpu
-cpu_elim Q CpuEntry.Damaged x y z = x refl
-cpu_elim Q CpuEntry.Absent x y z = y refl
-cpu_elim Q (CpuEntry.Holds t s k) x y z = z t s k refl
+cpu_elim Q None x y z = x refl
+cpu_elim Q (Some CpuEntry.Absent) x y z = y refl
+cpu_elim Q (Some (CpuEntry.Holds t s k)) x y z = z t s k refl
 
-pub tree_elim : {A : Type 0} (Q : A → Type 0) (e : TreeEntry) {d : A} {f : ℕ → ℕ → A} → (e ≡ TreeEntry.Damaged → Q d) → ((r k : ℕ) → e ≡ TreeEntry.Counts r k → Q (f r k)) → Q (by_tree e d f)
+pub tree_elim : {A : Type 0} (Q : A → Type 0) (e : Option TreeEntry) {d : A} {f : ℕ → ℕ → A} → (e ≡ None → Q d) → ((r k : ℕ) → e ≡ Some (tallied r k) → Q (f r k)) → Q (by_tree e d f)
 unfolding by_tree
-tree_elim Q TreeEntry.Damaged x y = x refl
-tree_elim Q (TreeEntry.Counts r k) x y = y r k refl
+tree_elim Q None x y = x refl
+tree_elim Q (Some e) x y = y e.reserved e.count refl
 
-pub child_elim : {A : Type 0} (Q : A → Type 0) (e : ChildEntry) {d a : A} {f : ℕ → A} → (e ≡ ChildEntry.Damaged → Q d) → ((k : ℕ) → e ≡ ChildEntry.Counts k → Q (f k)) → (e ≡ ChildEntry.Flagged → Q a) → Q (by_child e d f a)
+pub child_elim : {A : Type 0} (Q : A → Type 0) (e : Option ChildEntry) {d a : A} {f : ℕ → A} → (e ≡ None → Q d) → ((k : ℕ) → e ≡ Some (ChildEntry.Counts k) → Q (f k)) → (e ≡ (Some ChildEntry.Flagged) → Q a) → Q (by_child e d f a)
 unfolding by_child
-child_elim Q ChildEntry.Damaged x y w = x refl
-child_elim Q (ChildEntry.Counts k) x y w = y k refl
-child_elim Q ChildEntry.Flagged x y w = w refl
+child_elim Q None x y w = x refl
+child_elim Q (Some (ChildEntry.Counts k)) x y w = y k refl
+child_elim Q (Some ChildEntry.Flagged) x y w = w refl
 
 pub change_elim : {A B : Type 0} (Q : B → Type 0) (c : Change A) {k : B} {f : A → B} → (c ≡ keep → Q k) → ((v : A) → c ≡ become v → Q (f v)) → Q (by_change c k f)
 unfolding by_change
@@ -60,22 +61,22 @@ change_elim Q keep x y = x refl
 change_elim Q (become v) x y = y v refl
 
 -- what a well-formed entry says is in range
-pub holds_in : (g : Shape) (x : ℕ) (t : Tree) (s k : ℕ) → cpu_says g x ≡ CpuEntry.Holds t s k → Passes (holds_checks g t s k)
+pub holds_in : (g : Shape) (x : ℕ) (t : Tree) (s k : ℕ) → cpu_says g x ≡ Some (CpuEntry.Holds t s k) → Passes (holds_checks g t s k)
 holds_in g x t s k = go (cpu_says g x) (cpu_view g x)
   where
-    go : (c : CpuEntry) → CpuView g x c → c ≡ CpuEntry.Holds t s k → Passes (holds_checks g t s k)
-    go CpuEntry.Damaged (broken_cpu n) e = let z : ◌≡◌ {A = ℕ} 0 1 = cc in absurd (omega arith)
-    go CpuEntry.Absent (absent n) e = let z : ◌≡◌ {A = ℕ} 0 1 = cc in absurd (omega arith)
-    go (CpuEntry.Holds u a b) (holds n m p) e =
+    go : (c : Option CpuEntry) → CpuView g x c → c ≡ Some (CpuEntry.Holds t s k) → Passes (holds_checks g t s k)
+    go None (broken_cpu n) e = let z : ◌≡◌ {A = ℕ} 0 1 = cc in absurd (omega arith)
+    go (Some CpuEntry.Absent) (absent n) e = let z : ◌≡◌ {A = ℕ} 0 1 = cc in absurd (omega arith)
+    go (Some (CpuEntry.Holds u a b)) (holds n m p) e =
         let q : u ≡ t = cc in
         let v : a ≡ s = cc in
         let w : b ≡ k = cc in
         rw (← q, ← v, ← w) p
 
-pub count_in_lem : (g : Shape) (t : Tree) (x r k : ℕ) → tree_says g t x ≡ TreeEntry.Counts r k → k ≤ capacity g t.0
-unfolding tree_says
-count_in_lem g t x r k = pick_elim (λ e. e ≡ TreeEntry.Counts r k → k ≤ capacity g t.0) (leb (field tree_layout 1 x) (capacity g t.0))
-    (λ b e. let a : field tree_layout 1 x ≡ k = cc in omega (arith, leb-true (field tree_layout 1 x) (capacity g t.0) b))
+pub count_in_lem : (g : Shape) (t : Tree) (x r k : ℕ) → tree_says g t x ≡ Some (tallied r k) → k ≤ capacity g t.0
+unfolding tree_says by_tree
+count_in_lem g t x r k = pick_elim (λ e. e ≡ Some (tallied r k) → k ≤ capacity g t.0) (leb (field tree_layout 1 x) (capacity g t.0))
+    (λ b e. let a : field tree_layout 1 x ≡ k = ap (λ (o : Option TreeEntry). by_tree o 0 (λ r k. k)) e in omega (arith, leb-true (field tree_layout 1 x) (capacity g t.0) b))
     (λ b e. let z : ◌≡◌ {A = ℕ} 0 1 = cc in absurd (omega arith))
 
 -- ---- the plan of a look, and of a store that keeps its layout
@@ -101,27 +102,27 @@ module _ (g : Shape) where
   tally_plan t b k a h = pick_yes _ _ _ (le-leb k (capacity g t.0) h)
 
   -- of a child or a word, by what the lower level said
-  pub taken_plan : (t : Tree) (c v : ℕ) (a : Answer) (m : Mark) (p : Answer) → to_child g t c (on_took (changed Took.Taken v) a m p) ≡ record { store = child (t.0 * per_tree g + c) v; answer = a; mark = m }
+  pub taken_plan : (t : Tree) (c v : ℕ) (a : Answer) (m : Mark) (p : Answer) → to_child g t c (on_took (changed (Ok Took.Taken) v) a m p) ≡ record { store = child (t.0 * per_tree g + c) v; answer = a; mark = m }
   unfolding to_child by_change by_took
   taken_plan t c v a m p = refl
 
-  pub passed_plan : (t : Tree) (c : ℕ) (a : Answer) (m : Mark) (p : Answer) → to_child g t c (on_took (told Took.Passed) a m p) ≡ refuse p
+  pub passed_plan : (t : Tree) (c : ℕ) (a : Answer) (m : Mark) (p : Answer) → to_child g t c (on_took (told (Ok Took.Passed)) a m p) ≡ refuse p
   unfolding to_child by_change by_took
   passed_plan t c a m p = refl
 
-  pub given_plan : (t : Tree) (c v : ℕ) (a : Answer) (m : Mark) → to_child g t c (on_gave (changed Gave.Given v) a m) ≡ record { store = child (t.0 * per_tree g + c) v; answer = a; mark = m }
+  pub given_plan : (t : Tree) (c v : ℕ) (a : Answer) (m : Mark) → to_child g t c (on_gave (changed (Ok tt) v) a m) ≡ record { store = child (t.0 * per_tree g + c) v; answer = a; mark = m }
   unfolding to_child by_change by_gave
   given_plan t c v a m = refl
 
-  pub bit_plan : (t : Tree) (i b v : ℕ) (a : ℕ → Answer) (m : ℕ → Mark) (p : Answer) → to_word g t i (on_bit (changed (Bit.At b) v) a m p) ≡ record { store = word (child_words * (t.0 * per_tree g) + i) v; answer = a b; mark = m b }
+  pub bit_plan : (t : Tree) (i b v : ℕ) (a : ℕ → Answer) (m : ℕ → Mark) (p : Answer) → to_word g t i (on_bit (changed (Some b) v) a m p) ≡ record { store = word (child_words * (t.0 * per_tree g) + i) v; answer = a b; mark = m b }
   unfolding to_word by_change by_bit
   bit_plan t i b v a m p = refl
 
-  pub full_plan : (t : Tree) (i : ℕ) (a : ℕ → Answer) (m : ℕ → Mark) (p : Answer) → to_word g t i (on_bit (told Bit.Full) a m p) ≡ refuse p
+  pub full_plan : (t : Tree) (i : ℕ) (a : ℕ → Answer) (m : ℕ → Mark) (p : Answer) → to_word g t i (on_bit (told None) a m p) ≡ refuse p
   unfolding to_word by_change by_bit
   full_plan t i a m p = refl
 
-  pub cleared_plan : (t : Tree) (i v : ℕ) (a : Answer) (m : Mark) → to_word g t i (on_gave (changed Gave.Given v) a m) ≡ record { store = word (child_words * (t.0 * per_tree g) + i) v; answer = a; mark = m }
+  pub cleared_plan : (t : Tree) (i v : ℕ) (a : Answer) (m : Mark) → to_word g t i (on_gave (changed (Ok tt) v) a m) ≡ record { store = word (child_words * (t.0 * per_tree g) + i) v; answer = a; mark = m }
   unfolding to_word by_change by_gave
   cleared_plan t i v a m = refl
 
@@ -174,28 +175,34 @@ module _ (g : Shape) (z : Zone) (P : Store → Type 0) (none : P nothing) where
 
 -- ---- the answer, by what the lower level said
 module _ (P : Answer → Type 0) (bad : P Answer.Damaged) where
-  pub took_answer : (l : Lowered Took) (a : Answer) (m : Mark) (p : Answer) → P a → P p → P (on_took l a m p).answer
+  pub took_answer : (l : Lowered (Result Took Fault)) (a : Answer) (m : Mark) (p : Answer) → P a → P p → P (on_took l a m p).answer
   unfolding by_took
   took_answer l a m p x y = go l.said
     where
-      go : (s : Took) → P (by_took s (lowered l a m) (lowered l p plain) (lowered l Answer.Damaged plain)).answer
-      go Took.Taken = x
-      go Took.Passed = y
-      go Took.Damaged = bad
+      go : (s : Result Took Fault) → P (by_took s (lowered l a m) (lowered l p plain) (lowered l Answer.Damaged plain)).answer
+      go (Ok Took.Taken) = x
+      go (Ok Took.Passed) = y
+      go (Err f) = bad
 
-  pub bit_answer : (l : Lowered Bit) (a : ℕ → Answer) (m : ℕ → Mark) (p : Answer) → ((b : ℕ) → l.said ≡ Bit.At b → P (a b)) → P p → P (on_bit l a m p).answer
+  pub bit_answer : (l : Lowered (Option ℕ)) (a : ℕ → Answer) (m : ℕ → Mark) (p : Answer) → ((b : ℕ) → l.said ≡ Some b → P (a b)) → P p → P (on_bit l a m p).answer
   unfolding by_bit
   bit_answer l a m p x y = go l.said refl
     where
-      go : (s : Bit) → l.said ≡ s → P (by_bit s (λ b. lowered l (a b) (m b)) (lowered l p plain)).answer
-      go (Bit.At b) e = x b e
-      go Bit.Full e = y
+      go : (s : Option ℕ) → l.said ≡ s → P (by_bit s (λ b. lowered l (a b) (m b)) (lowered l p plain)).answer
+      go (Some b) e = x b e
+      go None e = y
 
-  pub gave_answer : P Answer.NotTaken → (l : Lowered Gave) (a : Answer) (m : Mark) → P a → P (on_gave l a m).answer
+  pub gave_answer : P Answer.NotTaken → (l : Lowered (Result Unit Fault)) (a : Answer) (m : Mark) → P a → P (on_gave l a m).answer
   unfolding by_gave
   gave_answer n l a m x = go l.said
     where
-      go : (s : Gave) → P (by_gave s (lowered l a m) (lowered l Answer.NotTaken plain) (lowered l Answer.Damaged plain)).answer
-      go Gave.Given = x
-      go Gave.NotTaken = n
-      go Gave.Damaged = bad
+      go : (s : Result Unit Fault) → P (by_gave s (lowered l a m) (lowered l Answer.NotTaken plain) (lowered l Answer.Damaged plain)).answer
+      go (Ok tt) = x
+      go (Err Fault.NotTaken) = n
+      go (Err Fault.Damaged) = bad
+      go (Err Fault.NoEntry) = bad
+      go (Err Fault.NoChild) = bad
+      go (Err Fault.NoWord) = bad
+      go (Err Fault.NoBit) = bad
+      go (Err Fault.NoField) = bad
+      go (Err Fault.TooMany) = bad

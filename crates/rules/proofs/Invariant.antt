@@ -1,4 +1,5 @@
 -- The invariant of an open zone, and that a step keeps it: one lemma for each kind of store.
+use Rattle.std.specs.Prelude.{Some, None}
 use mathlib.Core.Path.{◌≡◌, refl, sym, ap, ◌∙◌, subst}
 use mathlib.Core.Logic.{◌≢◌}
 use mathlib.Core.List.{List, [], ◌∷◌, ◌++◌}
@@ -172,9 +173,9 @@ module _ (n : ℕ) (z : Zone) (cs : ℕ → Cpu) (held lost : List Block) (u : U
       (record_changed g format1_sound z.trees z.cpus R F u.upper j l r e (record_of a) F (λ t h. ap (λ x. x + F t) (o t)) v w f.proper)
 
   -- the own entry is stored
-  pub own_kept : (c : CpuEntry) (a : Answer) → Fine (says (Store.cpu j c) a) → ((x : ℕ) → low_of g (record_of a) x ≡ low_of g r x) → cpu_says g (cpu_word format1 c) ≡ c → c ≢ CpuEntry.Damaged
-      → ((t : ℕ) → share t c + owed g (record_of a) t ≡ share t (entry_at g z.cpus j) + owed g r t) → ((t : ℕ) → has t c + reserves (record_of a) t ≡ has t (entry_at g z.cpus j) + reserves r t)
-      → Wanted (want (record_of a)) c → Keeps (says (Store.cpu j c) a)
+  pub own_kept : (c : CpuEntry) (a : Answer) → Fine (says (Store.cpu j c) a) → ((x : ℕ) → low_of g (record_of a) x ≡ low_of g r x) → cpu_says g (cpu_word format1 c) ≡ Some c → Some c ≢ None
+      → ((t : ℕ) → share t (Some c) + owed g (record_of a) t ≡ share t (entry_at g z.cpus j) + owed g r t) → ((t : ℕ) → has t (Some c) + reserves (record_of a) t ≡ has t (entry_at g z.cpus j) + reserves r t)
+      → Wanted (want (record_of a)) (Some c) → Keeps (says (Store.cpu j c) a)
   unfolding stored
   own_kept c a f low q d o v w = together (says (Store.cpu j c) a) _ refl f refl (length-set z.cpus j _) (lower_same (Store.cpu j c) a f low)
       (own_stored g format1_sound z.trees z.cpus R F u.upper j l r e (record_of a) c q d o v w f.proper)
@@ -219,7 +220,7 @@ module _ (n : ℕ) (z : Zone) (cs : ℕ → Cpu) (held lost : List Block) (u : U
   ws₀ = z.words
 
   -- a child's count, and what is under way below it
-  pub count_kept : (t c k k' : ℕ) (a : Answer) → Fine (says (Store.child (t * per_tree g + c) (count_word k')) a) → c < children_of g t → child_says (get_or cs₀ (t * per_tree g + c) 0) ≡ ChildEntry.Counts k → k' ≤ child_frames
+  pub count_kept : (t c k k' : ℕ) (a : Answer) → Fine (says (Store.child (t * per_tree g + c) (count_word k')) a) → c < children_of g t → child_says (get_or cs₀ (t * per_tree g + c) 0) ≡ Some (ChildEntry.Counts k) → k' ≤ child_frames
       → ((x : ℕ) → low_of g (record_of a) x + at (t * per_tree g + c) k' x ≡ low_of g r x + at (t * per_tree g + c) k x) → ((y : ℕ) → owed g (record_of a) y ≡ owed g r y) → ((y : ℕ) → reserves r y ≡ reserves (record_of a) y)
       → Wanted (want (record_of a)) (entry_at g z.cpus j) → Keeps (says (Store.child (t * per_tree g + c) (count_word k')) a)
   unfolding stored
@@ -247,7 +248,7 @@ module _ (n : ℕ) (z : Zone) (cs : ℕ → Cpu) (held lost : List Block) (u : U
 
   -- the taking store of a huge frame
   pub flag_kept : (t c : ℕ) (a : Answer) → let b : Block = Block.Whole (huge (t * per_tree g + c)) in let p : Plan = record { store = Store.child (t * per_tree g + c) flagged_word; answer = a; mark = takes b } in
-      Fine p → handed (cs j).begun a ≡ [] → owned_by r ≡ [] → owned_by (record_of a) ≡ b ∷ [] → c < children_of g t → child_says (get_or cs₀ (t * per_tree g + c) 0) ≡ ChildEntry.Counts child_frames
+      Fine p → handed (cs j).begun a ≡ [] → owned_by r ≡ [] → owned_by (record_of a) ≡ b ∷ [] → c < children_of g t → child_says (get_or cs₀ (t * per_tree g + c) 0) ≡ Some (ChildEntry.Counts child_frames)
       → ((x : ℕ) → low_of g (record_of a) x ≡ low_of g r x) → ((y : ℕ) → owed g (record_of a) y + at t child_frames y ≡ owed g r y) → ((y : ℕ) → reserves r y ≡ reserves (record_of a) y)
       → Wanted (want (record_of a)) (entry_at g z.cpus j) → Keeps p
   unfolding stored base_of whole_of
@@ -267,7 +268,7 @@ module _ (n : ℕ) (z : Zone) (cs : ℕ → Cpu) (held lost : List Block) (u : U
 
   -- the clearing store of a huge frame
   pub unflag_kept : (t c : ℕ) (a : Answer) → let b : Block = Block.Whole (huge (t * per_tree g + c)) in let p : Plan = record { store = Store.child (t * per_tree g + c) (count_word child_frames); answer = a; mark = clears b } in
-      Fine p → handed (cs j).begun a ≡ [] → owned_by r ≡ b ∷ [] → owned_by (record_of a) ≡ [] → c < children_of g t → child_says (get_or cs₀ (t * per_tree g + c) 0) ≡ ChildEntry.Flagged
+      Fine p → handed (cs j).begun a ≡ [] → owned_by r ≡ b ∷ [] → owned_by (record_of a) ≡ [] → c < children_of g t → child_says (get_or cs₀ (t * per_tree g + c) 0) ≡ (Some ChildEntry.Flagged)
       → ((x : ℕ) → low_of g (record_of a) x ≡ low_of g r x) → ((y : ℕ) → owed g (record_of a) y ≡ owed g r y + at t child_frames y) → ((y : ℕ) → reserves r y ≡ reserves (record_of a) y)
       → Wanted (want (record_of a)) (entry_at g z.cpus j) → Keeps p
   unfolding stored base_of whole_of

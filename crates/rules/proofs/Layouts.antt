@@ -1,4 +1,5 @@
 -- Packed entries: their round trips, and what breaks a layout.
+use Rattle.std.specs.Prelude.{Option, Some, None}
 use mathlib.Core.Path.{◌≡◌, refl, sym, ap, ◌∙◌}
 use mathlib.Core.Logic.{inl, inr, ◌↔◌, ◌≢◌}
 use mathlib.Core.Bool.{true, false}
@@ -18,7 +19,7 @@ use Rattle.laws.proofs.Fields.{split_join, join_split}
 use Rattle.rules.specs.Types.{Tree, Header, ChildEntry, TreeEntry, CpuEntry}
 use Rattle.rules.specs.Numbers.{child_frames, most_huge, format1, Shape, per_tree, capacity}
 use Rattle.rules.specs.Conversions.{tree}
-use Rattle.rules.specs.Entries.{field, header_layout, header_checks, identifier, running, clean, header_says, header_word, tree_layout, tree_says, tree_word, cpu_layout, holds_checks, cpu_says, cpu_word}
+use Rattle.rules.specs.Entries.{field, header_layout, header_checks, identifier, running, clean, header_says, header_word, tree_layout, tree_says, tree_word, cpu_layout, holds_checks, cpu_says, cpu_word, tallied}
 use Rattle.rules.specs.Lower.{child_layout, child_says, count_word, flagged_word}
 use Rattle.rules.specs.Layouts.{Sound, Trips, ChildLaidOut, TreeLaidOut, CpuLaidOut, Layouts}
 use Rattle.rules.proofs.Shapes.{tree_first, kids_most}
@@ -40,8 +41,8 @@ field_join layout vs i h = ap (λ l. get_or l i 0) (split_join layout vs h)
 
 -- ---- what is stored is read again
 
-header_again : (marker n : ℕ) → marker < 4 → 0 < n → n ≤ most_huge → (h : Header)
-    → pick (eqb marker running) (Header.Running n) (pick (eqb marker clean) (Header.Clean n) Header.Malformed) ≡ h → header_says (header_word marker n) ≡ h
+header_again : (marker n : ℕ) → marker < 4 → 0 < n → n ≤ most_huge → (h : Option Header)
+    → pick (eqb marker running) (Some (Header.Running n)) (pick (eqb marker clean) (Some (Header.Clean n)) None) ≡ h → header_says (header_word marker n) ≡ h
 unfolding header_says header_word
 header_again marker n a b c h e =
     let vs : List ℕ = identifier ∷ 1 ∷ marker ∷ n ∷ 0 ∷ [] in
@@ -50,15 +51,15 @@ header_again marker n a b c h e =
     let p : Passes (header_checks x) = (field_join header_layout vs 0 f, (field_join header_layout vs 1 f, (rw (field_join header_layout vs 3 f) b, (rw (field_join header_layout vs 3 f) (omega arith), (field_join header_layout vs 4 f, tt))))) in
     rw (passes_of (header_checks x) p, field_join header_layout vs 2 f, field_join header_layout vs 3 f) (pick_yes true _ _ refl ∙ e)
 
-pub running_again : (n : ℕ) → 0 < n → n ≤ most_huge → header_says (header_word running n) ≡ Header.Running n
+pub running_again : (n : ℕ) → 0 < n → n ≤ most_huge → header_says (header_word running n) ≡ Some (Header.Running n)
 unfolding pick
-running_again n b c = header_again running n (omega arith) b c (Header.Running n) refl
+running_again n b c = header_again running n (omega arith) b c (Some (Header.Running n)) refl
 
-pub clean_again : (n : ℕ) → 0 < n → n ≤ most_huge → header_says (header_word clean n) ≡ Header.Clean n
+pub clean_again : (n : ℕ) → 0 < n → n ≤ most_huge → header_says (header_word clean n) ≡ Some (Header.Clean n)
 unfolding pick
-clean_again n b c = header_again clean n (omega arith) b c (Header.Clean n) refl
+clean_again n b c = header_again clean n (omega arith) b c (Some (Header.Clean n)) refl
 
-pub count_again : (k : ℕ) → k ≤ child_frames → child_says (count_word k) ≡ ChildEntry.Counts k
+pub count_again : (k : ℕ) → k ≤ child_frames → child_says (count_word k) ≡ Some (ChildEntry.Counts k)
 unfolding child_says count_word
 count_again k h =
     let vs : List ℕ = 0 ∷ 0 ∷ k ∷ [] in
@@ -66,11 +67,11 @@ count_again k h =
     let x : ℕ = join child_layout vs in
     rw (field_join child_layout vs 0 f, field_join child_layout vs 1 f, field_join child_layout vs 2 f) (pick_yes _ _ _ (passes_of (0 is 0 ∷ 0 is 0 ∷ k below suc child_frames ∷ []) (refl, (refl, (omega arith, tt)))))
 
-pub flagged_again : child_says flagged_word ≡ ChildEntry.Flagged
+pub flagged_again : child_says flagged_word ≡ (Some ChildEntry.Flagged)
 unfolding child_says flagged_word field split join width passes pick
 flagged_again = refl
 
-pub tally_again : (g : Shape) (t : Tree) (r k : ℕ) → Sound g.format → r < 2 → k ≤ capacity g t.0 → tree_says g t (tree_word r k) ≡ TreeEntry.Counts r k
+pub tally_again : (g : Shape) (t : Tree) (r k : ℕ) → Sound g.format → r < 2 → k ≤ capacity g t.0 → tree_says g t (tree_word r k) ≡ Some (tallied r k)
 unfolding tree_says tree_word
 tally_again g t r k m a b =
     let vs : List ℕ = r ∷ k ∷ [] in
@@ -88,7 +89,7 @@ joined_some : (ws vs : List ℕ) → join (1 ∷ ws) (1 ∷ vs) ≢ 0
 unfolding join
 joined_some ws vs e = let p = pow_pos (width ws) in omega arith
 
-pub holds_again : (g : Shape) (t : Tree) (s k : ℕ) → Sound g.format → g.huge ≤ most_huge → Passes (holds_checks g t s k) → cpu_says g (cpu_word g.format (CpuEntry.Holds t s k)) ≡ CpuEntry.Holds t s k
+pub holds_again : (g : Shape) (t : Tree) (s k : ℕ) → Sound g.format → g.huge ≤ most_huge → Passes (holds_checks g t s k) → cpu_says g (cpu_word g.format (CpuEntry.Holds t s k)) ≡ Some (CpuEntry.Holds t s k)
 unfolding cpu_says cpu_word
 holds_again g t s k m n p =
     let lay : List ℕ = cpu_layout g.format in
@@ -102,16 +103,16 @@ holds_again g t s k m n p =
     pick_no (eqb x 0) _ _ (ne_eqb x 0 y)
     ∙ rw (field_join lay vs 0 f, field_join lay vs 1 f, field_join lay vs 2 f, field_join lay vs 3 f, field_join lay vs 4 f) (pick_yes _ _ _ (passes_of _ q))
 
-pub absent_again : (g : Shape) → cpu_says g (cpu_word g.format CpuEntry.Absent) ≡ CpuEntry.Absent
+pub absent_again : (g : Shape) → cpu_says g (cpu_word g.format CpuEntry.Absent) ≡ Some CpuEntry.Absent
 unfolding cpu_says cpu_word pick
 absent_again g = refl
 
 -- ---- what breaks a layout: an entry's view, with what is known of its fields
 
-pub data ChildView (x : ℕ) : ChildEntry → Type 0 where
-  broken : (ChildLaidOut x → ⊥) → ChildView x ChildEntry.Damaged
-  counts : Passes (field child_layout 0 x is 0 ∷ field child_layout 1 x is 0 ∷ field child_layout 2 x below suc child_frames ∷ []) → ChildView x (ChildEntry.Counts (field child_layout 2 x))
-  flagged : Passes (field child_layout 0 x is 1 ∷ field child_layout 1 x is 0 ∷ field child_layout 2 x is 0 ∷ []) → ChildView x ChildEntry.Flagged
+pub data ChildView (x : ℕ) : Option ChildEntry → Type 0 where
+  broken : (ChildLaidOut x → ⊥) → ChildView x None
+  counts : Passes (field child_layout 0 x is 0 ∷ field child_layout 1 x is 0 ∷ field child_layout 2 x below suc child_frames ∷ []) → ChildView x (Some (ChildEntry.Counts (field child_layout 2 x)))
+  flagged : Passes (field child_layout 0 x is 1 ∷ field child_layout 1 x is 0 ∷ field child_layout 2 x is 0 ∷ []) → ChildView x (Some ChildEntry.Flagged)
 
 pub child_view : (x : ℕ) → ChildView x (child_says x)
 unfolding child_says
@@ -125,26 +126,26 @@ child_view x =
     neither e f (z, inl h) = true_false (sym (passes_of _ (h.0, (z, (omega (arith, h.1), tt)))) ∙ e)
     neither e f (z, inr h) = true_false (sym (passes_of _ (h.0, (z, (h.1, tt)))) ∙ f)
 
-bad_child_lem : (x : ℕ) → child_says x ≡ ChildEntry.Damaged ↔ (ChildLaidOut x → ⊥)
+bad_child_lem : (x : ℕ) → child_says x ≡ None ↔ (ChildLaidOut x → ⊥)
 bad_child_lem x = go (child_says x) (child_view x)
   where
-    go : (e : ChildEntry) → ChildView x e → e ≡ ChildEntry.Damaged ↔ (ChildLaidOut x → ⊥)
-    go ChildEntry.Damaged (broken n) = (λ q. n, λ q. refl)
-    go (ChildEntry.Counts k) (counts p) = (λ q. let z : ◌≡◌ {A = ℕ} 0 1 = cc in absurd (omega arith), λ n. absurd (n (p.1.0, inl (p.0, omega (arith, p.1.1.0)))))
-    go ChildEntry.Flagged (flagged p) = (λ q. let z : ◌≡◌ {A = ℕ} 0 1 = cc in absurd (omega arith), λ n. absurd (n (p.1.0, inr (p.0, p.1.1.0))))
+    go : (e : Option ChildEntry) → ChildView x e → e ≡ None ↔ (ChildLaidOut x → ⊥)
+    go None (broken n) = (λ q. n, λ q. refl)
+    go (Some (ChildEntry.Counts k)) (counts p) = (λ q. let z : ◌≡◌ {A = ℕ} 0 1 = cc in absurd (omega arith), λ n. absurd (n (p.1.0, inl (p.0, omega (arith, p.1.1.0)))))
+    go (Some ChildEntry.Flagged) (flagged p) = (λ q. let z : ◌≡◌ {A = ℕ} 0 1 = cc in absurd (omega arith), λ n. absurd (n (p.1.0, inr (p.0, p.1.1.0))))
 
-bad_tree_lem : (g : Shape) (t : Tree) (x : ℕ) → tree_says g t x ≡ TreeEntry.Damaged ↔ (TreeLaidOut g t x → ⊥)
+bad_tree_lem : (g : Shape) (t : Tree) (x : ℕ) → tree_says g t x ≡ None ↔ (TreeLaidOut g t x → ⊥)
 unfolding tree_says
-bad_tree_lem g t x = pick_elim (λ e. e ≡ TreeEntry.Damaged ↔ (TreeLaidOut g t x → ⊥)) (leb (field tree_layout 1 x) (capacity g t.0))
+bad_tree_lem g t x = pick_elim (λ e. e ≡ None ↔ (TreeLaidOut g t x → ⊥)) (leb (field tree_layout 1 x) (capacity g t.0))
     (λ b. (λ q. let z : ◌≡◌ {A = ℕ} 0 1 = cc in absurd (omega arith), λ n. absurd (n (leb-true _ _ b))))
     (λ b. (λ q h. omega (arith, leb-false (field tree_layout 1 x) (capacity g t.0) b), λ n. refl))
 
-pub data CpuView (g : Shape) (x : ℕ) : CpuEntry → Type 0 where
-  broken_cpu : (CpuLaidOut g x → ⊥) → CpuView g x CpuEntry.Damaged
-  absent : x ≡ 0 → CpuView g x CpuEntry.Absent
+pub data CpuView (g : Shape) (x : ℕ) : Option CpuEntry → Type 0 where
+  broken_cpu : (CpuLaidOut g x → ⊥) → CpuView g x None
+  absent : x ≡ 0 → CpuView g x (Some CpuEntry.Absent)
   holds : field (cpu_layout g.format) 0 x ≡ 1 → field (cpu_layout g.format) 4 x ≡ 0
       → Passes (holds_checks g (tree (field (cpu_layout g.format) 1 x)) (field (cpu_layout g.format) 2 x) (field (cpu_layout g.format) 3 x))
-      → CpuView g x (CpuEntry.Holds (tree (field (cpu_layout g.format) 1 x)) (field (cpu_layout g.format) 2 x) (field (cpu_layout g.format) 3 x))
+      → CpuView g x (Some (CpuEntry.Holds (tree (field (cpu_layout g.format) 1 x)) (field (cpu_layout g.format) 2 x) (field (cpu_layout g.format) 3 x)))
 
 pub cpu_view : (g : Shape) (x : ℕ) → CpuView g x (cpu_says g x)
 unfolding cpu_says
@@ -157,13 +158,13 @@ cpu_view g x =
     neither n p (inl e) = n e
     neither n p (inr h) = true_false (sym (passes_of _ (h.0, (h.1, h.2))) ∙ p)
 
-bad_cpu_lem : (g : Shape) (x : ℕ) → cpu_says g x ≡ CpuEntry.Damaged ↔ (CpuLaidOut g x → ⊥)
+bad_cpu_lem : (g : Shape) (x : ℕ) → cpu_says g x ≡ None ↔ (CpuLaidOut g x → ⊥)
 bad_cpu_lem g x = go (cpu_says g x) (cpu_view g x)
   where
-    go : (e : CpuEntry) → CpuView g x e → e ≡ CpuEntry.Damaged ↔ (CpuLaidOut g x → ⊥)
-    go CpuEntry.Damaged (broken_cpu n) = (λ q. n, λ q. refl)
-    go CpuEntry.Absent (absent p) = (λ q. let z : ◌≡◌ {A = ℕ} 0 1 = cc in absurd (omega arith), λ n. absurd (n (inl p)))
-    go (CpuEntry.Holds t s k) (holds a b p) = (λ q. let z : ◌≡◌ {A = ℕ} 0 1 = cc in absurd (omega arith), λ n. absurd (n (inr (a, b, p))))
+    go : (e : Option CpuEntry) → CpuView g x e → e ≡ None ↔ (CpuLaidOut g x → ⊥)
+    go None (broken_cpu n) = (λ q. n, λ q. refl)
+    go (Some CpuEntry.Absent) (absent p) = (λ q. let z : ◌≡◌ {A = ℕ} 0 1 = cc in absurd (omega arith), λ n. absurd (n (inl p)))
+    go (Some (CpuEntry.Holds t s k)) (holds a b p) = (λ q. let z : ◌≡◌ {A = ℕ} 0 1 = cc in absurd (omega arith), λ n. absurd (n (inr (a, b, p))))
 
 pub layouts : Layouts
 unfolding width

@@ -26,11 +26,11 @@ Matches [] (r ∷ rs) = ⊥
 Matches (x ∷ l) [] = ⊥
 Matches (x ∷ l) (r ∷ rs) = (number x.answer ≡ r.no) × Decides x.test r.holds × ((r.holds → ⊥) → Matches l rs)
 
-abbrev pub None : List Rule → Type 0
-None [] = Unit {0}
-None (r ∷ rs) = (r.holds → ⊥) × None rs
+abbrev pub NoneHolds : List Rule → Type 0
+NoneHolds [] = Unit {0}
+NoneHolds (r ∷ rs) = (r.holds → ⊥) × NoneHolds rs
 
-pub first_guarded : (l : List Refusal) (rs rest : List Rule) (Else : ℕ → Type 0) (p : Plan) → Matches l rs → (None rs → First rest Else (number p.answer)) → First (rs ++ rest) Else (number (guarded l p).answer)
+pub first_guarded : (l : List Refusal) (rs rest : List Rule) (Else : ℕ → Type 0) (p : Plan) → Matches l rs → (NoneHolds rs → First rest Else (number p.answer)) → First (rs ++ rest) Else (number (guarded l p).answer)
 unfolding guarded
 first_guarded [] [] rest Else p m k = k tt
 first_guarded [] (r ∷ rs) rest Else p m k = absurd m

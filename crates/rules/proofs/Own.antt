@@ -1,4 +1,5 @@
 -- The lower level's invariant: words and children agree with what is owned and with what is under way. It knows no CPU and no record.
+use Rattle.std.specs.Prelude.{Some}
 use mathlib.Core.Path.{◌≡◌, refl, sym, ap, ◌∙◌}
 use mathlib.Core.Logic.{◌≢◌}
 use mathlib.Core.Bool.{true, false}
@@ -46,8 +47,8 @@ pub record Owned (n : ℕ) (cs ws : List ℕ) (low base whole : ℕ → ℕ) : T
 
 -- ---- one child, by what its entry x says: over a field with z zero bits, l of them under way, and w owners of the child as a whole
 data Child (x z l w : ℕ) : Type 0 where
-  counted : (k : ℕ) → child_says x ≡ ChildEntry.Counts k → k + l ≡ z → w ≡ 0 → Child x z l w
-  taken : child_says x ≡ ChildEntry.Flagged → l ≡ 0 → z ≡ child_frames → w ≡ 1 → Child x z l w
+  counted : (k : ℕ) → child_says x ≡ Some (ChildEntry.Counts k) → k + l ≡ z → w ≡ 0 → Child x z l w
+  taken : child_says x ≡ (Some ChildEntry.Flagged) → l ≡ 0 → z ≡ child_frames → w ≡ 1 → Child x z l w
 
 known : {x z l w : ℕ} → Child x z l w → (well_formed x ≡ true) × (count_in x + l ≡ pick (is_flagged x) 0 z) × (pick {A = ℕ} (is_flagged x) 1 0 ≡ 1 → z ≡ child_frames) × (pick (is_flagged x) 1 0 ≡ w)
 unfolding pick
@@ -87,11 +88,11 @@ owned_same n cs ws low base whole o low' base' whole' p q r = record {
 
 module _ (n : ℕ) (cs ws : List ℕ) (low base whole : ℕ → ℕ) (o : Owned n cs ws low base whole) where
   -- ---- what a child's entry tells
-  when_counts : (c k : ℕ) → c < n → child_says (get_or cs c 0) ≡ ChildEntry.Counts k → (k + low c ≡ zero_bits ws c) × (whole c ≡ 0)
+  when_counts : (c k : ℕ) → c < n → child_says (get_or cs c 0) ≡ Some (ChildEntry.Counts k) → (k + low c ≡ zero_bits ws c) × (whole c ≡ 0)
   unfolding free_of pick
   when_counts c k h e = let f = counts_entry _ k e in (rw (f.1, f.2) at (o.counts c h), sym (rw f.1 at (o.flags c h)))
 
-  when_flagged : (c : ℕ) → c < n → child_says (get_or cs c 0) ≡ ChildEntry.Flagged → (low c ≡ 0) × (zero_bits ws c ≡ child_frames) × (whole c ≡ 1)
+  when_flagged : (c : ℕ) → c < n → child_says (get_or cs c 0) ≡ (Some ChildEntry.Flagged) → (low c ≡ 0) × (zero_bits ws c ≡ child_frames) × (whole c ≡ 1)
   unfolding free_of pick
   when_flagged c h e = let f = flagged_entry _ e in (omega (arith, rw (f.1, f.2) at (o.counts c h)), o.empty c h (rw f.1 refl), sym (rw f.1 at (o.flags c h)))
 
@@ -127,7 +128,7 @@ module _ (n : ℕ) (cs ws : List ℕ) (low base whole : ℕ → ℕ) (o : Owned 
   -- ---- one law for each kind of store
 
   -- a count changes, and what is under way with it: claim, give back, raise
-  pub count_stored : (c k k' : ℕ) (low' : ℕ → ℕ) → c < n → child_says (get_or cs c 0) ≡ ChildEntry.Counts k → k' ≤ child_frames
+  pub count_stored : (c k k' : ℕ) (low' : ℕ → ℕ) → c < n → child_says (get_or cs c 0) ≡ Some (ChildEntry.Counts k) → k' ≤ child_frames
       → ((x : ℕ) → low' x + at c k' x ≡ low x + at c k x) → Owned n (set cs c (count_word k')) ws low' base whole
   count_stored c k k' low' h e l q =
       let p = when_counts c k h e in
@@ -136,7 +137,7 @@ module _ (n : ℕ) (cs ws : List ℕ) (low base whole : ℕ → ℕ) (o : Owned 
       (λ x m. (omega (arith, q x, at_other c k x m, at_other c k' x m), refl))
 
   -- a child wholly free becomes flagged: the taking store of a huge frame
-  pub flag_stored : (c : ℕ) (whole' : ℕ → ℕ) → c < n → child_says (get_or cs c 0) ≡ ChildEntry.Counts child_frames
+  pub flag_stored : (c : ℕ) (whole' : ℕ → ℕ) → c < n → child_says (get_or cs c 0) ≡ Some (ChildEntry.Counts child_frames)
       → ((x : ℕ) → whole' x ≡ whole x + at c 1 x) → Owned n (set cs c flagged_word) ws low base whole'
   flag_stored c whole' h e q =
       let p = when_counts c child_frames h e in
@@ -146,7 +147,7 @@ module _ (n : ℕ) (cs ws : List ℕ) (low base whole : ℕ → ℕ) (o : Owned 
       (λ x m. (refl, omega (arith, q x, at_other c 1 x m)))
 
   -- a flagged child becomes wholly free: the clearing store of a huge frame
-  pub flag_cleared : (c : ℕ) (whole' : ℕ → ℕ) → c < n → child_says (get_or cs c 0) ≡ ChildEntry.Flagged
+  pub flag_cleared : (c : ℕ) (whole' : ℕ → ℕ) → c < n → child_says (get_or cs c 0) ≡ (Some ChildEntry.Flagged)
       → ((x : ℕ) → whole' x + at c 1 x ≡ whole x) → Owned n (set cs c (count_word child_frames)) ws low base whole'
   flag_cleared c whole' h e q =
       let p = when_flagged c h e in
@@ -175,11 +176,11 @@ module _ (n : ℕ) (cs ws : List ℕ) (low base whole : ℕ → ℕ) (o : Owned 
       (λ f j. omega (arith, frames_set c i s b _ ws k l m f, o.bits f j, r f))
 
   -- ---- what the stores do to the free frames of any child x
-  pub count_free : (c k k' : ℕ) → c < n → child_says (get_or cs c 0) ≡ ChildEntry.Counts k → k' ≤ child_frames → (x : ℕ) → free_of (set cs c (count_word k')) ws x ≡ free_of cs ws x
+  pub count_free : (c k k' : ℕ) → c < n → child_says (get_or cs c 0) ≡ Some (ChildEntry.Counts k) → k' ≤ child_frames → (x : ℕ) → free_of (set cs c (count_word k')) ws x ≡ free_of cs ws x
   unfolding free_of
   count_free c k k' h e l = stored_free (λ x y. y ≡ free_of cs ws x) c (count_word k') h (rw ((counts_entry _ k e).1, (counts_entry _ k' (count_again k' l)).1)) (λ x m. refl)
 
-  pub flag_free : (c : ℕ) → c < n → child_says (get_or cs c 0) ≡ ChildEntry.Counts child_frames → (x : ℕ) → free_of (set cs c flagged_word) ws x + at c child_frames x ≡ free_of cs ws x
+  pub flag_free : (c : ℕ) → c < n → child_says (get_or cs c 0) ≡ Some (ChildEntry.Counts child_frames) → (x : ℕ) → free_of (set cs c flagged_word) ws x + at c child_frames x ≡ free_of cs ws x
   unfolding free_of pick
   flag_free c h e =
       let p = when_counts c child_frames h e in
@@ -188,7 +189,7 @@ module _ (n : ℕ) (cs ws : List ℕ) (low base whole : ℕ → ℕ) (o : Owned 
       (rw ((counts_entry _ child_frames e).1, (flagged_entry _ flagged_again).1) (omega (arith, at_same c child_frames)))
       (λ x m. omega (arith, at_other c child_frames x m))
 
-  pub unflag_free : (c : ℕ) → c < n → child_says (get_or cs c 0) ≡ ChildEntry.Flagged → (x : ℕ) → free_of (set cs c (count_word child_frames)) ws x ≡ free_of cs ws x + at c child_frames x
+  pub unflag_free : (c : ℕ) → c < n → child_says (get_or cs c 0) ≡ (Some ChildEntry.Flagged) → (x : ℕ) → free_of (set cs c (count_word child_frames)) ws x ≡ free_of cs ws x + at c child_frames x
   unfolding free_of pick
   unflag_free c h e =
       let p = when_flagged c h e in
@@ -213,7 +214,7 @@ module _ (n : ℕ) (cs ws : List ℕ) (low base whole : ℕ → ℕ) (o : Owned 
   free_most c = pick_elim (λ y. y ≤ child_frames) (is_flagged (get_or cs c 0)) (λ e. omega arith) (λ e. zero_bits_lem ws c)
 
   -- a flagged child has nobody under way, and a child with something under way is not flagged
-  pub low_clear : (c : ℕ) → c < n → 0 < low c → (k : ℕ) × (child_says (get_or cs c 0) ≡ ChildEntry.Counts k) × (k + low c ≡ free_of cs ws c)
+  pub low_clear : (c : ℕ) → c < n → 0 < low c → (k : ℕ) × (child_says (get_or cs c 0) ≡ Some (ChildEntry.Counts k)) × (k + low c ≡ free_of cs ws c)
   unfolding free_of
   low_clear c h l = elim (child c h) [
     | counted k e p q ↦ (k, e, p ∙ sym (pick_no _ 0 (zero_bits ws c) (counts_entry _ k e).1))
@@ -224,7 +225,7 @@ module _ (n : ℕ) (cs ws : List ℕ) (low base whole : ℕ → ℕ) (o : Owned 
   pub base_bit : (f : ℕ) → f < child_frames * n → base f ≡ 1 → bit_at ws f ≡ 1
   base_bit f h e = o.bits f h ∙ e
 
-  pub whole_flag : (c : ℕ) → c < n → whole c ≡ 1 → child_says (get_or cs c 0) ≡ ChildEntry.Flagged
+  pub whole_flag : (c : ℕ) → c < n → whole c ≡ 1 → child_says (get_or cs c 0) ≡ (Some ChildEntry.Flagged)
   whole_flag c h e = elim (child c h) [
     | counted k f p q ↦ absurd (omega arith)
     | taken f p q r ↦ f

@@ -1,4 +1,5 @@
 -- The lower level's laws on two children: child 1 is taken as a whole, frame 0 is taken, a cut and a recount, and both are given back.
+use Rattle.std.specs.Prelude.{Some}
 use mathlib.Core.Path.{◌≡◌, refl}
 use mathlib.Core.List.{List, [], ◌∷◌}
 use Prim.Native.Nat.{ℕ, zero, suc, ◌+◌, ◌-◌, ◌/◌, ◌≤◌, ◌<◌}
@@ -28,7 +29,7 @@ both P p q zero h = p
 both P p q (suc zero) h = q
 both P p q (suc (suc c)) h = absurd (omega arith)
 
-says : (child_says (count_word 512) ≡ ChildEntry.Counts 512) × (child_says (count_word 511) ≡ ChildEntry.Counts 511) × (child_says flagged_word ≡ ChildEntry.Flagged)
+says : (child_says (count_word 512) ≡ Some (ChildEntry.Counts 512)) × (child_says (count_word 511) ≡ Some (ChildEntry.Counts 511)) × (child_says flagged_word ≡ (Some ChildEntry.Flagged))
 unfolding by_computation
 says = (refl, refl, refl)
 
@@ -102,12 +103,12 @@ end_frees = unflag_free _ _ _ _ _ _ raised 1 (omega arith) says.2 1
 -- ---- what follows
 
 -- a claim under way: child 0 counts 511 of its 512 free frames
-pub under_way : (k : ℕ) × (child_says (count_word 511) ≡ ChildEntry.Counts k) × (k + 1 ≡ 512)
+pub under_way : (k : ℕ) × (child_says (count_word 511) ≡ Some (ChildEntry.Counts k)) × (k + 1 ≡ 512)
 unfolding by_computation free_of at
 under_way = low_clear _ _ _ _ _ _ claimed 0 (omega arith) (omega arith)
 
 -- frame 0's owner has its bit, child 1's owner its flag
-pub held : (bit_at (words 1) 0 ≡ 1) × (child_says flagged_word ≡ ChildEntry.Flagged)
+pub held : (bit_at (words 1) 0 ≡ 1) × (child_says flagged_word ≡ (Some ChildEntry.Flagged))
 unfolding run at pick
 held = (base_bit _ _ _ _ _ _ taken 0 (omega arith) refl, whole_flag _ _ _ _ _ _ taken 1 (omega arith) refl)
 

@@ -1,4 +1,5 @@
 -- The invariant outside an open zone: after a cut or a close, and inside an open; and how one phase leads to the next.
+use Rattle.std.specs.Prelude.{Some}
 use mathlib.Core.Path.{◌≡◌, refl, sym, ap, ◌∙◌}
 use mathlib.Core.Logic.{◌⊎◌, inl, inr}
 use mathlib.Core.Bool.{true, false, not}
@@ -134,11 +135,11 @@ module _ (n : ℕ) (z : Zone) (held lost : List Block) (d : Down n z held lost) 
   abbrev g : Shape
   g = shaped n z
 
-  header_says_lem : (header_of z ≡ Header.Running n) ⊎ (header_of z ≡ Header.Clean n)
+  header_says_lem : (header_of z ≡ Some (Header.Running n)) ⊎ (header_of z ≡ Some (Header.Clean n))
   unfolding header_of
   header_says_lem = go d.header
     where
-      go : (z.header ≡ header_word running n ∷ []) ⊎ ((z.header ≡ header_word clean n ∷ []) × Counted n z) → (header_of z ≡ Header.Running n) ⊎ (header_of z ≡ Header.Clean n)
+      go : (z.header ≡ header_word running n ∷ []) ⊎ ((z.header ≡ header_word clean n ∷ []) × Counted n z) → (header_of z ≡ Some (Header.Running n)) ⊎ (header_of z ≡ Some (Header.Clean n))
       go (inl e) = inl (rw e (running_again n d.some d.small))
       go (inr e) = inr (rw e.0 (clean_again n d.some d.small))
 
@@ -146,7 +147,7 @@ module _ (n : ℕ) (z : Zone) (held lost : List Block) (d : Down n z held lost) 
   unfolding header_huge
   down_huge = go header_says_lem
     where
-      go : (header_of z ≡ Header.Running n) ⊎ (header_of z ≡ Header.Clean n) → header_huge (header_of z) ≡ n
+      go : (header_of z ≡ Some (Header.Running n)) ⊎ (header_of z ≡ Some (Header.Clean n)) → header_huge (header_of z) ≡ n
       go (inl e) = ap header_huge e
       go (inr e) = ap header_huge e
 
@@ -154,7 +155,7 @@ module _ (n : ℕ) (z : Zone) (held lost : List Block) (d : Down n z held lost) 
   unfolding is_malformed
   not_malformed = go header_says_lem
     where
-      go : (header_of z ≡ Header.Running n) ⊎ (header_of z ≡ Header.Clean n) → is_malformed (header_of z) ≡ false
+      go : (header_of z ≡ Some (Header.Running n)) ⊎ (header_of z ≡ Some (Header.Clean n)) → is_malformed (header_of z) ≡ false
       go (inl e) = ap is_malformed e
       go (inr e) = ap is_malformed e
 
@@ -261,7 +262,7 @@ up_still n z held lost a b h c d k q tl tt' cl = record {
     C : ℕ
     C = length z.cpus
 
-    gone_all : (j : ℕ) → j < C → entry_at g z.cpus j ≡ CpuEntry.Absent
+    gone_all : (j : ℕ) → j < C → entry_at g z.cpus j ≡ Some CpuEntry.Absent
     gone_all j m = ap (cpu_says g) (cl j m) ∙ absent_again g
 
     low_none : (x : ℕ) → low_of g Record.Finished x ≡ 0
@@ -273,10 +274,10 @@ up_still n z held lost a b h c d k q tl tt' cl = record {
     reserves_none : (t : ℕ) → reserves Record.Finished t ≡ 0
     reserves_none t = refl
 
-    share_none : (t : ℕ) → share t CpuEntry.Absent ≡ 0
+    share_none : (t : ℕ) → share t (Some CpuEntry.Absent) ≡ 0
     share_none t = refl
 
-    has_none : (t : ℕ) → has t CpuEntry.Absent ≡ 0
+    has_none : (t : ℕ) → has t (Some CpuEntry.Absent) ≡ 0
     has_none t = refl
 
     fits : (t : ℕ) → Fit tree_layout (0 ∷ free_tree g z.children z.words t ∷ [])

@@ -1,4 +1,5 @@
 -- Every step of a put keeps the invariant.
+use Rattle.std.specs.Prelude.{Some, Option}
 use mathlib.Core.Path.{◌≡◌, refl, sym, ap, ◌∙◌, subst}
 use mathlib.Core.List.{List, [], ◌∷◌}
 use Prim.Native.Nat.{ℕ, ◌+◌, ◌-◌, ◌*◌, ◌/◌, ◌%◌, ◌^◌, ◌≤◌, ◌<◌}
@@ -41,7 +42,7 @@ module _ (n : ℕ) (z : Zone) (cs : ℕ → Cpu) (held lost : List Block) (u : U
   abbrev g : Shape
   g = shaped n z
 
-  abbrev E : CpuEntry
+  abbrev E : Option CpuEntry
   E = entry_at g z.cpus j
 
   module _ (s : Giving) (e : (cs j).latest ≡ Record.Put j s) where
@@ -130,7 +131,7 @@ module _ (n : ℕ) (z : Zone) (cs : ℕ → Cpu) (held lost : List Block) (u : U
       read_cpu n z cs held lost u (Kept s e) j _ _ l (λ a. none) (λ v c k a q. pick_elim (λ (m : Made CpuEntry). Kept s e (to_cpu g j m)) (eqb v.0 t.0)
       (λ d.
       let w : v ≡ t = ap tree (eqb-true v.0 t.0 d) in
-      let held_by : E ≡ CpuEntry.Holds t c k = a ∙ ap (λ i. CpuEntry.Holds i c k) w in
+      let held_by : E ≡ Some (CpuEntry.Holds t c k) = a ∙ ap (λ i. Some (CpuEntry.Holds i c k)) w in
       let r : Passes (holds_checks g t c k) = subst (λ i. Passes (holds_checks g i c k)) w q in
       let m : k + size_of b ≤ capacity g t.0 = omega (arith, room n z cs held lost u t.0 j j y l l, ap (share t.0) held_by, at_same t.0 k, owes s e t.0 (size_of b) (at_same t.0 (size_of b))) in
       let ok : Passes (holds_checks g t c (k + size_of b)) = (r.0, (r.1.0, (omega arith, tt))) in
@@ -169,7 +170,7 @@ module _ (n : ℕ) (z : Zone) (cs : ℕ → Cpu) (held lost : List Block) (u : U
       let x : ℕ = get_or z.children i 0 in
       let once = owned_once n z.children z.words _ _ (owned_survived n z.children z.words _ _ _ u.lower) (child_frames * i) (omega arith) in
       let one : weighs (whole_of i) held lost (length z.cpus) cs ≡ 1 = omega (arith, weighs_own s e (whole_of i), ap (λ k. at k 1 i) q.2, at_same i 1, rw (whole_of_lem i) at once) in
-      let f : child_says x ≡ ChildEntry.Flagged = whole_flag n z.children z.words _ _ _ u.lower i inside one in
+      let f : child_says x ≡ (Some ChildEntry.Flagged) = whole_flag n z.children z.words _ _ _ u.lower i inside one in
       read_child n z cs held lost u (Kept s e) t c _ q.1 (rw (clear_flagged x f, given_plan g t c (count_word child_frames) (put g j (Giving.ToEntry b)) (clears b))
       (subst (λ (y : Huge). Kept s e (record { store = Store.child i (count_word child_frames); answer = put g j (Giving.ToEntry b); mark = clears (Block.Whole y) })) same
       (unflag_kept n z cs held lost u j l _ e t.0 c _ (fine_clears s e _ _ (Giving.ToEntry b) (proper s e) refl) (handed_none s e _) (ap (λ y. Block.Whole y ∷ []) (sym same)) refl q.1 f (λ y. refl) (λ y. sym (zero-add _)) (λ y. refl) tt)))

@@ -1,4 +1,5 @@
 -- In a zone that keeps the invariant no call is refused before its stage, every entry read is well formed, and every sum has room.
+use Rattle.std.specs.Prelude.{Some}
 use mathlib.Core.Path.{◌≡◌, refl, sym, ap, ◌∙◌, subst}
 use mathlib.Core.List.{List, ◌++◌}
 use Prim.Native.Nat.{ℕ, ◌+◌, ◌*◌, ◌≤◌, ◌<◌}
@@ -12,7 +13,7 @@ use Rattle.laws.proofs.Sum.{sum_part, sum_bound}
 use Rattle.laws.proofs.Parts.{part_at}
 use Rattle.rules.specs.Types.{Tree, Block, Header, ChildEntry, TreeEntry, CpuEntry, Record}
 use Rattle.rules.specs.Numbers.{child_frames, child_words, Shape, per_tree, trees_of, children_of, capacity}
-use Rattle.rules.specs.Entries.{field, tree_layout, tree_says, holds_checks}
+use Rattle.rules.specs.Entries.{field, tree_layout, tree_says, holds_checks, tallied}
 use Rattle.rules.specs.Lower.{child_says}
 use Rattle.rules.specs.Zone.{Zone, header_of, header_huge, shaped, shape_of, tree_entry_at, cpu_entry_at}
 use Rattle.rules.specs.Plan.{Plan, Refusal, Made, Tally, cpu_entry, tree_entry, child_entry, word_entry, by_tree, to_cpu, to_tree, to_child, to_word, carried, guarded}
@@ -38,7 +39,7 @@ module _ (n : ℕ) (z : Zone) (cs : ℕ → Cpu) (held lost : List Block) (u : U
 
   -- ---- the header and the lengths
 
-  pub header_runs : header_of z ≡ Header.Running n
+  pub header_runs : header_of z ≡ Some (Header.Running n)
   unfolding header_of
   header_runs = rw u.header (running_again n u.some u.small)
 
@@ -74,7 +75,7 @@ module _ (n : ℕ) (z : Zone) (cs : ℕ → Cpu) (held lost : List Block) (u : U
   reserved t j h m = omega (arith, u.upper.flags t h, sum_part (length z.cpus) (λ q. reserves (cs q).latest t) j m)
 
   -- a child below which something is under way has a count, with room for it
-  pub under_way : (i j b : ℕ) → i < n → j < length z.cpus → 0 < b → b ≤ low_of g (cs j).latest i → (k : ℕ) × (child_says (get_or z.children i 0) ≡ ChildEntry.Counts k) × (k + b ≤ child_frames)
+  pub under_way : (i j b : ℕ) → i < n → j < length z.cpus → 0 < b → b ≤ low_of g (cs j).latest i → (k : ℕ) × (child_says (get_or z.children i 0) ≡ Some (ChildEntry.Counts k)) × (k + b ≤ child_frames)
   under_way i j b h m b+ d =
       let s = sum_part (length z.cpus) (λ q. low_of g (cs q).latest i) j m in
       let c = low_clear n z.children z.words _ _ _ u.lower i h (omega arith) in
@@ -82,12 +83,12 @@ module _ (n : ℕ) (z : Zone) (cs : ℕ → Cpu) (held lost : List Block) (u : U
 
   -- ---- a step carried out, by the entry that it reads
 
-  pub read_cpu : (Q : Plan → Type 0) (i : ℕ) (a : Made CpuEntry) (f : Tree → ℕ → ℕ → Made CpuEntry) → i < length z.cpus → (cpu_entry_at g z i ≡ CpuEntry.Absent → Q (to_cpu g i a))
-      → ((t : Tree) (s k : ℕ) → cpu_entry_at g z i ≡ CpuEntry.Holds t s k → Passes (holds_checks g t s k) → Q (to_cpu g i (f t s k))) → Q (carried g z (cpu_entry i a f))
+  pub read_cpu : (Q : Plan → Type 0) (i : ℕ) (a : Made CpuEntry) (f : Tree → ℕ → ℕ → Made CpuEntry) → i < length z.cpus → (cpu_entry_at g z i ≡ Some CpuEntry.Absent → Q (to_cpu g i a))
+      → ((t : Tree) (s k : ℕ) → cpu_entry_at g z i ≡ Some (CpuEntry.Holds t s k) → Passes (holds_checks g t s k) → Q (to_cpu g i (f t s k))) → Q (carried g z (cpu_entry i a f))
   unfolding carried
   read_cpu Q i a f h x y = cpu_elim Q (cpu_entry_at g z i) (λ e. absurd (u.upper.sound i h e)) x (λ t s k e. y t s k e (holds_in g (get_or z.cpus i 0) t s k e))
 
-  pub tree_says_lem : (t : Tree) → t.0 < trees_of g → tree_entry_at g z t ≡ TreeEntry.Counts (flag_at z.trees t.0) (tally_at z.trees t.0)
+  pub tree_says_lem : (t : Tree) → t.0 < trees_of g → tree_entry_at g z t ≡ Some (tallied (flag_at z.trees t.0) (tally_at z.trees t.0))
   unfolding tree_says
   tree_says_lem t h = pick_yes _ _ _ (le-leb (tally_at z.trees t.0) (capacity g t.0) (omega (arith, room t.0 0 0 h u.some_cpu u.some_cpu)))
 

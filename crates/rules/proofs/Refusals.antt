@@ -1,4 +1,5 @@
 -- Every call answers the first number of its list whose rule holds; a refusal stores nothing.
+use Rattle.std.specs.Prelude.{Option, Some, None}
 use mathlib.Core.Path.{◌≡◌, refl, sym, ◌∙◌, subst}
 use mathlib.Core.Logic.{◌⊎◌, inl, inr, ◌≢◌}
 use mathlib.Core.Bool.{Bool, true, false, not, ◌&&◌}
@@ -27,7 +28,7 @@ use Rattle.rules.specs.Blocks.{size}
 use Rattle.rules.specs.Begin.{bad_cpu, bad_order, bad_frame, misaligned, is_order, order_of, begin_get, begin_put}
 use Rattle.rules.specs.InRange.{StepIn, CreateIn, OpenIn}
 use Rattle.rules.specs.Refusals.{Rule, ◌when◌, First, HeaderMissing, marker_in, huge_in, WellFormed, word0, NotAZone, IsClosed, WrongLength, n_of, open_rules, get_rules, frame_rules, put_rules, entry_rules, step_rules, StepElse, Quiet, size_rules, create_step_rules, BadChild, BadField, BadTree, BadCpu, BadOpening, Settled, open_zone_rules, open_step_rules, close_rules, Call, Refusals}
-use Rattle.rules.proofs.Lists.{Decides, Matches, None, first_guarded, quiet_guarded, decides_not, decides_iff, decides_le, decides_either, Means, one, decides_unless, stable}
+use Rattle.rules.proofs.Lists.{Decides, Matches, NoneHolds, first_guarded, quiet_guarded, decides_not, decides_iff, decides_le, decides_either, Means, one, decides_unless, stable}
 use Rattle.rules.proofs.Checks.{well_formed_lem, header_checked, lengths_in, size_in, step_in_lem, create_in, open_in}
 use Rattle.rules.proofs.Sizes.{size_of}
 use Rattle.rules.proofs.Guards.{not_refused}
@@ -38,10 +39,10 @@ use Rattle.rules.proofs.Stages.{Told, take_told, give_told}
 -- ---- the header
 
 -- malformed; or well formed, with its marker and its n
-data HeaderView (x : ℕ) : Header → Type 0 where
-  malformed : (WellFormed x → ⊥) → HeaderView x Header.Malformed
-  runs : WellFormed x → marker_in x ≡ 1 → HeaderView x (Header.Running (huge_in x))
-  rests : WellFormed x → marker_in x ≡ 2 → HeaderView x (Header.Clean (huge_in x))
+data HeaderView (x : ℕ) : Option Header → Type 0 where
+  malformed : (WellFormed x → ⊥) → HeaderView x None
+  runs : WellFormed x → marker_in x ≡ 1 → HeaderView x (Some (Header.Running (huge_in x)))
+  rests : WellFormed x → marker_in x ≡ 2 → HeaderView x (Some (Header.Clean (huge_in x)))
 
 header_view : (x : ℕ) → HeaderView x (header_says x)
 unfolding header_says field split width
@@ -58,30 +59,30 @@ header_view x = pick_elim (HeaderView x) (passes (header_checks x))
     other p q (inl e) = p e
     other p q (inr e) = q e
 
-malformed_is : (x : ℕ) (h : Header) → HeaderView x h → Decides (is_malformed h) (WellFormed x → ⊥)
+malformed_is : (x : ℕ) (h : Option Header) → HeaderView x h → Decides (is_malformed h) (WellFormed x → ⊥)
 unfolding is_malformed
-malformed_is x Header.Malformed (malformed n) = record { when_true = λ e. n; when_false = λ e. true_false e }
-malformed_is x (Header.Running k) (runs w m) = record { when_true = λ e. true_false (sym e); when_false = λ e h. h w }
-malformed_is x (Header.Clean k) (rests w m) = record { when_true = λ e. true_false (sym e); when_false = λ e h. h w }
+malformed_is x None (malformed n) = record { when_true = λ e. n; when_false = λ e. true_false e }
+malformed_is x (Some (Header.Running k)) (runs w m) = record { when_true = λ e. true_false (sym e); when_false = λ e h. h w }
+malformed_is x (Some (Header.Clean k)) (rests w m) = record { when_true = λ e. true_false (sym e); when_false = λ e h. h w }
 
 -- of a header that is well formed
-clean_is : (x : ℕ) (h : Header) → HeaderView x h → ((WellFormed x → ⊥) → ⊥) → Decides (is_clean h) (marker_in x ≡ 2)
+clean_is : (x : ℕ) (h : Option Header) → HeaderView x h → ((WellFormed x → ⊥) → ⊥) → Decides (is_clean h) (marker_in x ≡ 2)
 unfolding is_clean
-clean_is x Header.Malformed (malformed n) w = absurd (w n)
-clean_is x (Header.Running k) (runs p m) w = record { when_true = λ e. true_false (sym e); when_false = λ e h. omega (arith, sym m ∙ h) }
-clean_is x (Header.Clean k) (rests p m) w = record { when_true = λ e. m; when_false = λ e. true_false e }
+clean_is x None (malformed n) w = absurd (w n)
+clean_is x (Some (Header.Running k)) (runs p m) w = record { when_true = λ e. true_false (sym e); when_false = λ e h. omega (arith, sym m ∙ h) }
+clean_is x (Some (Header.Clean k)) (rests p m) w = record { when_true = λ e. m; when_false = λ e. true_false e }
 
-running_is : (x : ℕ) (h : Header) → HeaderView x h → ((WellFormed x → ⊥) → ⊥) → Decides (is_running h) (marker_in x ≡ 1)
+running_is : (x : ℕ) (h : Option Header) → HeaderView x h → ((WellFormed x → ⊥) → ⊥) → Decides (is_running h) (marker_in x ≡ 1)
 unfolding is_running
-running_is x Header.Malformed (malformed n) w = absurd (w n)
-running_is x (Header.Running k) (runs p m) w = record { when_true = λ e. m; when_false = λ e. true_false e }
-running_is x (Header.Clean k) (rests p m) w = record { when_true = λ e. true_false (sym e); when_false = λ e h. omega (arith, sym m ∙ h) }
+running_is x None (malformed n) w = absurd (w n)
+running_is x (Some (Header.Running k)) (runs p m) w = record { when_true = λ e. m; when_false = λ e. true_false e }
+running_is x (Some (Header.Clean k)) (rests p m) w = record { when_true = λ e. true_false (sym e); when_false = λ e h. omega (arith, sym m ∙ h) }
 
-huge_is : (x : ℕ) (h : Header) → HeaderView x h → ((WellFormed x → ⊥) → ⊥) → header_huge h ≡ huge_in x
+huge_is : (x : ℕ) (h : Option Header) → HeaderView x h → ((WellFormed x → ⊥) → ⊥) → header_huge h ≡ huge_in x
 unfolding header_huge
-huge_is x Header.Malformed (malformed n) w = absurd (w n)
-huge_is x (Header.Running k) (runs p m) w = refl
-huge_is x (Header.Clean k) (rests p m) w = refl
+huge_is x None (malformed n) w = absurd (w n)
+huge_is x (Some (Header.Running k)) (runs p m) w = refl
+huge_is x (Some (Header.Clean k)) (rests p m) w = refl
 
 order_is : (o : ℕ) → Decides (not (is_order o)) ((6 < o) × (o ≢ 9))
 unfolding is_order
@@ -110,7 +111,7 @@ module _ (z : Zone) where
   lengths_are w = rw (n_is w) (decides_unless (lengths_in (n_of z) z))
 
   -- what every call on an open zone refuses first, and then the rest of its list
-  open_matches : (l : List Refusal) (rs : List Rule) → (None (open_rules z) → Matches l rs) → Matches (not_open z ++ l) (open_rules z ++ rs)
+  open_matches : (l : List Refusal) (rs : List Rule) → (NoneHolds (open_rules z) → Matches l rs) → Matches (not_open z ++ l) (open_rules z ++ rs)
   open_matches l rs k = (refl, missing_is, λ a. (refl, zone_is, λ b. (refl, closed_is b, λ c. (refl, lengths_are b, λ d. k (a, (b, (c, (d, tt))))))))
 
   begin_matches : (j o : ℕ) (l : List Refusal) (rs : List Rule) → ((NotAZone z → ⊥) → ((6 < o) × (o ≢ 9) → ⊥) → Matches l rs) → Matches (not_open z ++ (bad_cpu z j ∷ bad_order o ∷ l)) (get_rules z j o ++ rs)

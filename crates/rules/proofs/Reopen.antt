@@ -1,4 +1,5 @@
 -- A finished open, over any tree and CPU tables; and open again after a cut: it finds each child as it was or as open leaves it, and leaves the same.
+use Rattle.std.specs.Prelude.{Option, Some, None}
 use mathlib.Core.Path.{◌≡◌, refl, sym, ap, ◌∙◌}
 use mathlib.Core.Logic.{◌⊎◌, inl, inr}
 use mathlib.Core.Bool.{true, not}
@@ -47,23 +48,23 @@ fields_join : (x : ℕ) → x < 2 ^ 16 → join child_layout (field child_layout
 unfolding field split
 fields_join = layouts.child.word
 
-word_of_lem : (x i : ℕ) → x < 2 ^ 16 → child_says x ≡ ChildEntry.Counts i → count_word i ≡ x
+word_of_lem : (x i : ℕ) → x < 2 ^ 16 → child_says x ≡ Some (ChildEntry.Counts i) → count_word i ≡ x
 unfolding count_word
 word_of_lem x i l = go (child_says x) (child_view x)
   where
-    go : (c : ChildEntry) → ChildView x c → c ≡ ChildEntry.Counts i → count_word i ≡ x
-    go ChildEntry.Damaged (broken n) e = let z : ◌≡◌ {A = ℕ} 0 1 = cc in absurd (omega arith)
-    go (ChildEntry.Counts k) (counts p) e = let q : k ≡ i = cc in rw (← q) (rw (p.0, p.1.0) at (fields_join x l))
-    go ChildEntry.Flagged (flagged p) e = let z : ◌≡◌ {A = ℕ} 0 1 = cc in absurd (omega arith)
+    go : (c : Option ChildEntry) → ChildView x c → c ≡ Some (ChildEntry.Counts i) → count_word i ≡ x
+    go None (broken n) e = let z : ◌≡◌ {A = ℕ} 0 1 = cc in absurd (omega arith)
+    go (Some (ChildEntry.Counts k)) (counts p) e = let q : k ≡ i = cc in rw (← q) (rw (p.0, p.1.0) at (fields_join x l))
+    go (Some ChildEntry.Flagged) (flagged p) e = let z : ◌≡◌ {A = ℕ} 0 1 = cc in absurd (omega arith)
 
 -- to the count that it has
-recount_same : (k x : ℕ) → x < 2 ^ 16 → ((i : ℕ) → child_says x ≡ ChildEntry.Counts i → i ≡ k) → recount k x ≡ x
+recount_same : (k x : ℕ) → x < 2 ^ 16 → ((i : ℕ) → child_says x ≡ Some (ChildEntry.Counts i) → i ≡ k) → recount k x ≡ x
 unfolding recount
 recount_same k x l h = child_elim (λ y. y ≡ x) (child_says x) (λ e. refl) (λ i e. rw (← (h i e)) (word_of_lem x i l e)) (λ e. refl)
 
-flagged_says : (x : ℕ) → is_flagged x ≡ true → child_says x ≡ ChildEntry.Flagged
+flagged_says : (x : ℕ) → is_flagged x ≡ true → child_says x ≡ (Some ChildEntry.Flagged)
 unfolding is_flagged
-flagged_says x = child_elim (λ b. b ≡ true → child_says x ≡ ChildEntry.Flagged) (child_says x) (λ e q. true_false (sym q)) (λ k e q. true_false (sym q)) (λ e q. e)
+flagged_says x = child_elim (λ b. b ≡ true → child_says x ≡ (Some ChildEntry.Flagged)) (child_says x) (λ e q. true_false (sym q)) (λ k e q. true_false (sym q)) (λ e q. e)
 
 -- ---- open to its end
 
@@ -104,7 +105,7 @@ module _ (z : Zone) (ok : Accepts z) (truth : (is_running (header_of z) ≡ true
     abbrev y : Zone
     y = cut_to w ts cs
 
-    runs_on : header_of y ≡ Header.Running n
+    runs_on : header_of y ≡ Some (Header.Running n)
     runs_on = header_is y n ok.sized h.header
 
     is_running_lem : is_running (header_of y) ≡ true

@@ -1,4 +1,5 @@
 -- A child without a free block of s frames, stated of frames; how a count and a search of its words show it. Stated over the size s.
+use Rattle.std.specs.Prelude.{Some}
 use mathlib.Core.Path.{◌≡◌, sym, ap, ◌∙◌}
 use mathlib.Core.Logic.{◌≢◌}
 use mathlib.Core.List.{List}
@@ -74,7 +75,7 @@ short_words s m e cs ws x h i l q =
     ap (λ c. bit c (get_or ws (child_words * x + a) 0)) (sym u) ∙ ap (λ c. bit (y % word_bits) (get_or ws c 0)) (sym v) ∙ not_taken cs ws y (q k t)))
 
 -- a count is stored over a count: flags and bits stay
-pub short_counted : (s : ℕ) (cs ws : List ℕ) (i k k' : ℕ) → i < length cs → child_says (get_or cs i 0) ≡ ChildEntry.Counts k → k' ≤ child_frames → (x : ℕ) → Short s cs ws x → Short s (set cs i (count_word k')) ws x
+pub short_counted : (s : ℕ) (cs ws : List ℕ) (i k k' : ℕ) → i < length cs → child_says (get_or cs i 0) ≡ Some (ChildEntry.Counts k) → k' ≤ child_frames → (x : ℕ) → Short s cs ws x → Short s (set cs i (count_word k')) ws x
 short_counted s cs ws i k k' l e m x h b a q = h b a (λ y t. ap (λ c. pick c 1 (bit_at ws (child_frames * x + (s * b + y)))) (sym (flags ((child_frames * x + (s * b + y)) / child_frames))) ∙ q y t)
   where
     flags : (y : ℕ) → is_flagged (get_or (set cs i (count_word k')) y 0) ≡ is_flagged (get_or cs y 0)

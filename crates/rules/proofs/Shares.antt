@@ -1,4 +1,5 @@
 -- What an operation under way contributes, by its record: what it owns, what it is owed, what it keeps reserved, and what its CPU's entry may be.
+use Rattle.std.specs.Prelude.{Option, Some}
 use mathlib.Core.Path.{◌≡◌}
 use mathlib.Core.List.{List, []}
 use Prim.Native.Nat.{ℕ, ◌+◌, ◌*◌, ◌≤◌}
@@ -23,10 +24,10 @@ whole_of c (Block.Run v b) = 0
 whole_of c (Block.Whole h) = at h.0 1 c
 
 -- ---- what an entry counts of tree t, and whether it holds it
-unfoldable pub share : ℕ → CpuEntry → ℕ
+unfoldable pub share : ℕ → Option CpuEntry → ℕ
 share t e = by_cpu e 0 0 (λ u s k. at u.0 k t)
 
-unfoldable pub has : ℕ → CpuEntry → ℕ
+unfoldable pub has : ℕ → Option CpuEntry → ℕ
 has t e = by_cpu e 0 0 (λ u s k. at u.0 1 t)
 
 module _ (g : Shape) where
@@ -117,10 +118,10 @@ pub data Want : Type 0 where
   mine : (t : Tree) → Want
   gone : Want
 
-abbrev pub Wanted : Want → CpuEntry → Type 0
+abbrev pub Wanted : Want → Option CpuEntry → Type 0
 Wanted anything e = Unit {0}
-Wanted (mine t) e = (u : Tree) (s k : ℕ) → e ≡ CpuEntry.Holds u s k → u ≡ t
-Wanted gone e = e ≡ CpuEntry.Absent
+Wanted (mine t) e = (u : Tree) (s k : ℕ) → e ≡ Some (CpuEntry.Holds u s k) → u ≡ t
+Wanted gone e = e ≡ Some CpuEntry.Absent
 
 abbrev pub want : Record → Want
 want Record.Finished = anything

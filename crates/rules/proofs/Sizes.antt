@@ -1,4 +1,5 @@
 -- The sizes of runs: powers of two, up to a word.
+use Rattle.std.specs.Prelude.{Some}
 use mathlib.Core.Path.{◌≡◌, refl, sym, ap, ◌∙◌}
 use mathlib.Core.Logic.{◌≢◌}
 use mathlib.Core.Bool.{true}
@@ -10,7 +11,7 @@ use native.Mathlib.Omega.{arith}
 use native.Mathlib.Nat.{div-add-mod'}
 use Rattle.laws.specs.Tests.{pick}
 use Rattle.laws.proofs.Tests.{pick_elim}
-use Rattle.rules.specs.Types.{Run, Order, Bit}
+use Rattle.rules.specs.Types.{Run, Order}
 use Rattle.rules.specs.Numbers.{child_frames, child_words, word_bits}
 use Rattle.rules.specs.Blocks.{run_size, size}
 use Rattle.rules.specs.Lower.{take_run}
@@ -93,7 +94,7 @@ run_at Run.ThirtyTwo i l = (omega arith, omega arith)
 run_at Run.SixtyFour i l = (omega arith, omega arith)
 
 -- ---- the run that a step takes
-pub taken_run : (v : Run) (w b : ℕ) → (take_run (run_size v) w).said ≡ Bit.At b → (b % run_size v ≡ 0) × (b + run_size v ≤ word_bits)
+pub taken_run : (v : Run) (w b : ℕ) → (take_run (run_size v) w).said ≡ Some b → (b % run_size v ≡ 0) × (b + run_size v ≤ word_bits)
 taken_run v w b e = let t = taken_at_lem (run_size v) w b e in rw t.1 (run_at v _ t.0)
 
 -- its first frame: in child x of n, at a multiple of its size

@@ -1,4 +1,5 @@
 -- A stage of a get or put answers 12 where the entry that it reads, or would store, is damaged, 6 where the block is not taken, and goes on otherwise.
+use Rattle.std.specs.Prelude.{Option, Result, Ok, Err, Some, None}
 use mathlib.Core.Path.{◌≡◌, refl, sym, ◌∙◌, ap, subst}
 use mathlib.Core.Logic.{◌⊎◌, inl, inr, ◌≢◌}
 use mathlib.Core.Bool.{Bool, ◌&&◌}
@@ -13,15 +14,15 @@ use Rattle.laws.specs.Words.{bit, bits}
 use Rattle.laws.proofs.Tests.{pick_elim, passes_left, passes_right, all_passed}
 use Rattle.laws.proofs.Words.{bits_taken, some_free}
 use Rattle.laws.proofs.Parts.{part_at}
-use Rattle.rules.specs.Types.{Tree, Run, Order, Block, ChildEntry, TreeEntry, CpuEntry, Took, Bit, Gave, Place, Taking, Giving, Record, Answer}
+use Rattle.rules.specs.Types.{Tree, Run, Order, Block, ChildEntry, TreeEntry, CpuEntry, Took, Fault, Place, Taking, Giving, Record, Answer}
 use Rattle.rules.specs.Numbers.{child_frames, child_words, Shape, per_tree, trees_of, children_of, capacity}
 use Rattle.rules.specs.Conversions.{tree}
 use Rattle.rules.specs.Blocks.{run_size, size, size_of, tree_of_block, child_of_block, huge_of_block}
 use Rattle.rules.specs.Answers.{number}
-use Rattle.rules.specs.Entries.{holds_checks}
+use Rattle.rules.specs.Entries.{holds_checks, tallied}
 use Rattle.rules.specs.Lower.{Lowered, told, changed, child_says, by_child, claim, take_huge, give_count, clear_huge, take_run, clear_run}
 use Rattle.rules.specs.Zone.{Zone, Store, shaped, tree_entry_at, cpu_entry_at, child_part, word_part}
-use Rattle.rules.specs.Plan.{Mark, plain, Plan, says, refuse, Made, look, store, Tally, tally, no_entry, cpu_entry, tree_entry, child_entry, word_entry, laid_out, to_cpu, to_tree, to_child, to_word, carried, by_change, by_cpu, by_took, by_bit, by_gave, on_took, on_bit, on_gave}
+use Rattle.rules.specs.Plan.{Mark, plain, Plan, says, refuse, Made, look, store, Tally, tally, no_entry, cpu_entry, tree_entry, child_entry, word_entry, laid_out, to_cpu, to_tree, to_child, to_word, carried, by_change, by_cpu, by_tree, by_took, by_bit, by_gave, on_took, on_bit, on_gave}
 use Rattle.rules.specs.Ranges.{taking_in, giving_in, block_in, found_in, place_in}
 use Rattle.rules.specs.Places.{class_of, fits, pass_tree, found_tree, place_tree}
 use Rattle.rules.specs.Take.{if_own_holds, claim_own, release, write, steal_count, next_child, search_child, search_word, take}
@@ -35,25 +36,25 @@ use Rattle.rules.proofs.Shapes.{kids_some, number_in}
 use Rattle.rules.proofs.Sizes.{bit_ends}
 use Rattle.rules.proofs.Fresh.{child_at_lem}
 
-clash : {A : Type 0} (e : CpuEntry) (t : Tree) (s k : ℕ) → e ≡ CpuEntry.Holds t s k → e ≡ CpuEntry.Damaged → A
+clash : {A : Type 0} (e : Option CpuEntry) (t : Tree) (s k : ℕ) → e ≡ Some (CpuEntry.Holds t s k) → e ≡ None → A
 clash e t s k p q = let z : ◌≡◌ {A = ℕ} 0 1 = cc in absurd (omega arith)
 
-absent_clash : {A : Type 0} (e : CpuEntry) → e ≡ CpuEntry.Absent → e ≡ CpuEntry.Damaged → A
+absent_clash : {A : Type 0} (e : Option CpuEntry) → e ≡ Some CpuEntry.Absent → e ≡ None → A
 absent_clash e p q = let z : ◌≡◌ {A = ℕ} 0 1 = cc in absurd (omega arith)
 
-absent_holds : {A : Type 0} (e : CpuEntry) (t : Tree) (s k : ℕ) → e ≡ CpuEntry.Absent → e ≡ CpuEntry.Holds t s k → A
+absent_holds : {A : Type 0} (e : Option CpuEntry) (t : Tree) (s k : ℕ) → e ≡ Some CpuEntry.Absent → e ≡ Some (CpuEntry.Holds t s k) → A
 absent_holds e t s k p q = let z : ◌≡◌ {A = ℕ} 0 1 = cc in absurd (omega arith)
 
-count_clash : {A : Type 0} (e : TreeEntry) (r k : ℕ) → e ≡ TreeEntry.Counts r k → e ≡ TreeEntry.Damaged → A
+count_clash : {A : Type 0} (e : Option TreeEntry) (r k : ℕ) → e ≡ Some (tallied r k) → e ≡ None → A
 count_clash e r k p q = let z : ◌≡◌ {A = ℕ} 0 1 = cc in absurd (omega arith)
 
-count_no : (x k : ℕ) → child_says x ≡ ChildEntry.Counts k → child_says x ≡ ChildEntry.Damaged → ⊥
+count_no : (x k : ℕ) → child_says x ≡ Some (ChildEntry.Counts k) → child_says x ≡ None → ⊥
 count_no x k p q = let z : ◌≡◌ {A = ℕ} 0 1 = cc in absurd (omega arith)
 
-flag_no : (x : ℕ) → child_says x ≡ ChildEntry.Flagged → child_says x ≡ ChildEntry.Damaged → ⊥
+flag_no : (x : ℕ) → child_says x ≡ (Some ChildEntry.Flagged) → child_says x ≡ None → ⊥
 flag_no x p q = let z : ◌≡◌ {A = ℕ} 0 1 = cc in absurd (omega arith)
 
-count_flag : (x k : ℕ) → child_says x ≡ ChildEntry.Counts k → child_says x ≡ ChildEntry.Flagged → ⊥
+count_flag : (x k : ℕ) → child_says x ≡ Some (ChildEntry.Counts k) → child_says x ≡ (Some ChildEntry.Flagged) → ⊥
 count_flag x k p q = let z : ◌≡◌ {A = ℕ} 0 1 = cc in absurd (omega arith)
 
 module _ (g : Shape) (z : Zone) (r : Record) where
@@ -76,14 +77,14 @@ module _ (g : Shape) (z : Zone) (r : Record) where
 
   -- ---- by the entry read
 
-  told_cpu : (j : ℕ) (a : Made CpuEntry) (f : Tree → ℕ → ℕ → Made CpuEntry) → (cpu_entry_at g z j ≡ CpuEntry.Damaged → Damage g z r)
-      → (cpu_entry_at g z j ≡ CpuEntry.Absent → Told (to_cpu g j a))
-      → ((t : Tree) (s k : ℕ) → cpu_entry_at g z j ≡ CpuEntry.Holds t s k → Passes (holds_checks g t s k) → Told (to_cpu g j (f t s k))) → Told (carried g z (cpu_entry j a f))
+  told_cpu : (j : ℕ) (a : Made CpuEntry) (f : Tree → ℕ → ℕ → Made CpuEntry) → (cpu_entry_at g z j ≡ None → Damage g z r)
+      → (cpu_entry_at g z j ≡ Some CpuEntry.Absent → Told (to_cpu g j a))
+      → ((t : Tree) (s k : ℕ) → cpu_entry_at g z j ≡ Some (CpuEntry.Holds t s k) → Passes (holds_checks g t s k) → Told (to_cpu g j (f t s k))) → Told (carried g z (cpu_entry j a f))
   unfolding carried
   told_cpu j a f d x y = cpu_elim Told (cpu_entry_at g z j) (λ e. damaged (d e)) x (λ t s k e. y t s k e (holds_in g (get_or z.cpus j 0) t s k e))
 
-  told_tree : (t : Tree) (f : ℕ → ℕ → Made Tally) → (tree_entry_at g z t ≡ TreeEntry.Damaged → Damage g z r)
-      → ((b k : ℕ) → tree_entry_at g z t ≡ TreeEntry.Counts b k → k ≤ capacity g t.0 → Told (to_tree g t (f b k))) → Told (carried g z (tree_entry t f))
+  told_tree : (t : Tree) (f : ℕ → ℕ → Made Tally) → (tree_entry_at g z t ≡ None → Damage g z r)
+      → ((b k : ℕ) → tree_entry_at g z t ≡ Some (tallied b k) → k ≤ capacity g t.0 → Told (to_tree g t (f b k))) → Told (carried g z (tree_entry t f))
   unfolding carried
   told_tree t f d y = tree_elim Told (tree_entry_at g z t) (λ e. damaged (d e)) (λ b k e. y b k e (count_in_lem g t (get_or z.trees t.0 0) b k e))
 
@@ -121,56 +122,57 @@ module _ (g : Shape) (z : Zone) (r : Record) where
   -- ---- by what the lower level says
 
   -- a claim, and the taking of a huge frame
-  told_took : (t : Tree) (c x : ℕ) (test : ℕ → Bool) (v : ℕ → ℕ) (a : Answer) (m : Mark) (p : Answer) → number a ≡ 1 → number p ≡ 1 → (child_says x ≡ ChildEntry.Damaged → Damage g z r)
-      → ((child_says x ≡ ChildEntry.Damaged → ⊥) → Damage g z r → ⊥) → (NotTaken g z r → ⊥)
-      → Told (to_child g t c (on_took (by_child (child_says x) (told Took.Damaged) (λ k. pick (test k) (changed Took.Taken (v k)) (told Took.Passed)) (told Took.Passed)) a m p))
+  told_took : (t : Tree) (c x : ℕ) (test : ℕ → Bool) (v : ℕ → ℕ) (a : Answer) (m : Mark) (p : Answer) → number a ≡ 1 → number p ≡ 1 → (child_says x ≡ None → Damage g z r)
+      → ((child_says x ≡ None → ⊥) → Damage g z r → ⊥) → (NotTaken g z r → ⊥)
+      → Told (to_child g t c (on_took (by_child (child_says x) (told (Err Fault.Damaged)) (λ k. pick (test k) (changed (Ok Took.Taken) (v k)) (told (Ok Took.Passed))) (told (Ok Took.Passed))) a m p))
   unfolding to_child by_change by_took
   told_took t c x test v a m p ea ep d s n =
-      let Q : Lowered Took → Type 0 = λ l. Told (to_child g t c (on_took l a m p)) in
+      let Q : Lowered (Result Took Fault) → Type 0 = λ l. Told (to_child g t c (on_took l a m p)) in
       child_elim Q (child_says x)
       (λ e. damaged (d e))
       (λ k e. let u = s (count_no x k e) in pick_elim Q (test k) (λ b. goes _ u n (inr ea)) (λ b. goes _ u n (inr ep)))
       (λ e. goes _ (s (flag_no x e)) n (inr ep))
 
   -- a count given back
-  told_give : (t : Tree) (c x s : ℕ) (a : Answer) (m : Mark) → number a ≡ 1 → (child_says x ≡ ChildEntry.Damaged → Damage g z r)
-      → (child_says x ≡ ChildEntry.Flagged → Damage g z r) → ((k : ℕ) → child_says x ≡ ChildEntry.Counts k → child_frames < k + s → Damage g z r)
-      → ((k : ℕ) → child_says x ≡ ChildEntry.Counts k → k + s ≤ child_frames → Damage g z r → ⊥) → (NotTaken g z r → ⊥) → Told (to_child g t c (on_gave (give_count s x) a m))
+  told_give : (t : Tree) (c x s : ℕ) (a : Answer) (m : Mark) → number a ≡ 1 → (child_says x ≡ None → Damage g z r)
+      → (child_says x ≡ (Some ChildEntry.Flagged) → Damage g z r) → ((k : ℕ) → child_says x ≡ Some (ChildEntry.Counts k) → child_frames < k + s → Damage g z r)
+      → ((k : ℕ) → child_says x ≡ Some (ChildEntry.Counts k) → k + s ≤ child_frames → Damage g z r → ⊥) → (NotTaken g z r → ⊥) → Told (to_child g t c (on_gave (give_count s x) a m))
   unfolding give_count to_child by_change by_gave
   told_give t c x s a m ea d f o u n =
-      let Q : Lowered Gave → Type 0 = λ l. Told (to_child g t c (on_gave l a m)) in
+      let Q : Lowered (Result Unit Fault) → Type 0 = λ l. Told (to_child g t c (on_gave l a m)) in
       child_elim Q (child_says x)
       (λ e. damaged (d e))
       (λ k e. pick_elim Q (leb (k + s) child_frames) (λ b. goes _ (u k e (leb-true _ _ b)) n (inr ea)) (λ b. damaged (o k e (leb-false _ _ b))))
       (λ e. damaged (f e))
 
   -- a huge frame cleared
-  told_clear_huge : (t : Tree) (c x : ℕ) (a : Answer) (m : Mark) → number a ≡ 1 → (child_says x ≡ ChildEntry.Damaged → Damage g z r)
-      → ((child_says x ≡ ChildEntry.Damaged → ⊥) → Damage g z r → ⊥) → ((k : ℕ) → child_says x ≡ ChildEntry.Counts k → NotTaken g z r) → (child_says x ≡ ChildEntry.Flagged → NotTaken g z r → ⊥)
+  told_clear_huge : (t : Tree) (c x : ℕ) (a : Answer) (m : Mark) → number a ≡ 1 → (child_says x ≡ None → Damage g z r)
+      → ((child_says x ≡ None → ⊥) → Damage g z r → ⊥) → ((k : ℕ) → child_says x ≡ Some (ChildEntry.Counts k) → NotTaken g z r) → (child_says x ≡ (Some ChildEntry.Flagged) → NotTaken g z r → ⊥)
       → Told (to_child g t c (on_gave (clear_huge x) a m))
   unfolding clear_huge to_child by_change by_gave
   told_clear_huge t c x a m ea d s n f =
-      let Q : Lowered Gave → Type 0 = λ l. Told (to_child g t c (on_gave l a m)) in
+      let Q : Lowered (Result Unit Fault) → Type 0 = λ l. Told (to_child g t c (on_gave l a m)) in
       child_elim Q (child_says x) (λ e. damaged (d e)) (λ k e. free (s (count_no x k e)) (n k e)) (λ e. goes _ (s (flag_no x e)) (f e) (inr ea))
 
   -- a run of bits cleared, and one taken
   told_clear : (t : Tree) (i s b w : ℕ) (a : Answer) (m : Mark) → number a ≡ 1 → (Damage g z r → ⊥)
       → (bits s b w ≢ 2 ^ s - 1 → NotTaken g z r) → (bits s b w ≡ 2 ^ s - 1 → NotTaken g z r → ⊥) → Told (to_word g t i (on_gave (clear_run s b w) a m))
   unfolding clear_run to_word by_change by_gave
-  told_clear t i s b w a m ea d n f = pick_elim (λ (l : Lowered Gave). Told (to_word g t i (on_gave l a m))) (eqb (bits s b w) (2 ^ s - 1))
+  told_clear t i s b w a m ea d n f = pick_elim (λ (l : Lowered (Result Unit Fault)). Told (to_word g t i (on_gave l a m))) (eqb (bits s b w) (2 ^ s - 1))
       (λ e. goes _ d (f (eqb-true _ _ e)) (inr ea)) (λ e. free d (n (eqb-false _ _ e)))
 
   told_run : (t : Tree) (i s w : ℕ) (a : ℕ → Answer) (m : ℕ → Mark) (p : Answer) → ((b : ℕ) → number (a b) ≡ 1) → number p ≡ 1 → (Damage g z r → ⊥) → (NotTaken g z r → ⊥) → Told (to_word g t i (on_bit (take_run s w) a m p))
   unfolding take_run to_word by_change by_bit
-  told_run t i s w a m p ea ep d n = pick_elim (λ (l : Lowered Bit). Told (to_word g t i (on_bit l a m p))) _ (λ e. goes _ d n (inr (ea _))) (λ e. goes _ d n (inr ep))
+  told_run t i s w a m p ea ep d n = pick_elim (λ (l : Lowered (Option ℕ)). Told (to_word g t i (on_bit l a m p))) _ (λ e. goes _ d n (inr (ea _))) (λ e. goes _ d n (inr ep))
 
-same_count : (e : ChildEntry) (k k' : ℕ) → e ≡ ChildEntry.Counts k → e ≡ ChildEntry.Counts k' → k ≡ k'
+same_count : (e : Option ChildEntry) (k k' : ℕ) → e ≡ Some (ChildEntry.Counts k) → e ≡ Some (ChildEntry.Counts k') → k ≡ k'
 same_count e k k' p q = cc
 
-same_tally : (e : TreeEntry) (b b' k k' : ℕ) → e ≡ TreeEntry.Counts b k → e ≡ TreeEntry.Counts b' k' → k ≡ k'
-same_tally e b b' k k' p q = cc
+same_tally : (e : Option TreeEntry) (b b' k k' : ℕ) → e ≡ Some (tallied b k) → e ≡ Some (tallied b' k') → k ≡ k'
+unfolding by_tree
+same_tally e b b' k k' p q = let f : Option TreeEntry → ℕ = λ o. by_tree o 0 (λ r k. k) in sym (ap f p) ∙ ap f q
 
-same_entry : (e : CpuEntry) (t : Tree) (s s' k k' : ℕ) → e ≡ CpuEntry.Holds t s k → e ≡ CpuEntry.Holds t s' k' → k ≡ k'
+same_entry : (e : Option CpuEntry) (t : Tree) (s s' k k' : ℕ) → e ≡ Some (CpuEntry.Holds t s k) → e ≡ Some (CpuEntry.Holds t s' k') → k ≡ k'
 same_entry e t s s' k k' p q = cc
 
 pub block_huge : (g : Shape) (b : Block) → Passes (block_in g b) → (huge_of_block b).0 < g.huge
@@ -202,9 +204,9 @@ module _ (n : ℕ) (z : Zone) (n+ : 0 < n) (j : ℕ) (l : j < length z.cpus) whe
   next_number o p s c = pick_elim (λ a. number a ≡ 1) _ (λ b. refl) (λ b. refl)
 
   -- the own entry, if it holds tree t
-  told_own : (r : Record) (t : Tree) (f : ℕ → ℕ → Made CpuEntry) (a : Answer) → number a ≡ 1 ⊎ number a ≡ 0 → (cpu_entry_at g z j ≡ CpuEntry.Damaged → Damage g z r)
-      → (NotTaken g z r → ⊥) → ((cpu_entry_at g z j ≡ CpuEntry.Damaged → ⊥) → ((s k : ℕ) → cpu_entry_at g z j ≡ CpuEntry.Holds t s k → ⊥) → Damage g z r → ⊥)
-      → ((s k : ℕ) → cpu_entry_at g z j ≡ CpuEntry.Holds t s k → Passes (holds_checks g t s k) → Told g z r (to_cpu g j (f s k))) → Told g z r (carried g z (if_own_holds g j t f (look a)))
+  told_own : (r : Record) (t : Tree) (f : ℕ → ℕ → Made CpuEntry) (a : Answer) → number a ≡ 1 ⊎ number a ≡ 0 → (cpu_entry_at g z j ≡ None → Damage g z r)
+      → (NotTaken g z r → ⊥) → ((cpu_entry_at g z j ≡ None → ⊥) → ((s k : ℕ) → cpu_entry_at g z j ≡ Some (CpuEntry.Holds t s k) → ⊥) → Damage g z r → ⊥)
+      → ((s k : ℕ) → cpu_entry_at g z j ≡ Some (CpuEntry.Holds t s k) → Passes (holds_checks g t s k) → Told g z r (to_cpu g j (f s k))) → Told g z r (carried g z (if_own_holds g j t f (look a)))
   told_own r t f a ea d n u y = told_cpu g z r j (look a) _ d
       (λ e. told_look g z r j a (goes g z r (refuse a) (u (absent_clash _ e) (λ s k q. absent_holds _ t s k e q)) n (flip ea)))
       (λ v s k e p. pick_elim (λ (m : Made CpuEntry). Told g z r (to_cpu g j m)) (eqb v.0 t.0)
@@ -215,7 +217,7 @@ module _ (n : ℕ) (z : Zone) (n+ : 0 < n) (j : ℕ) (l : j < length z.cpus) whe
       flip (inl q) = inr q
       flip (inr q) = inl q
 
-      same_tree : (v t : Tree) (s s' k k' : ℕ) → cpu_entry_at g z j ≡ CpuEntry.Holds v s k → cpu_entry_at g z j ≡ CpuEntry.Holds t s' k' → v.0 ≡ t.0
+      same_tree : (v t : Tree) (s s' k k' : ℕ) → cpu_entry_at g z j ≡ Some (CpuEntry.Holds v s k) → cpu_entry_at g z j ≡ Some (CpuEntry.Holds t s' k') → v.0 ≡ t.0
       same_tree v t s s' k k' p q = let w : v ≡ t = cc in ap (λ (x : Tree). x.0) w
 
   sound : {A B : Type 0} → (A → ⊥) → (B → ⊥) → A ⊎ B → ⊥
@@ -225,21 +227,21 @@ module _ (n : ℕ) (z : Zone) (n+ : 0 < n) (j : ℕ) (l : j < length z.cpus) whe
   never : ⊥ → ⊥
   never x = x
 
-  tree_fits : (t : Tree) (x b k : ℕ) → tree_entry_at g z t ≡ TreeEntry.Counts b k → k + x ≤ capacity g t.0 → TreePasses g z t x → ⊥
+  tree_fits : (t : Tree) (x b k : ℕ) → tree_entry_at g z t ≡ Some (tallied b k) → k + x ≤ capacity g t.0 → TreePasses g z t x → ⊥
   tree_fits t x b k e m q = let w : k ≡ q.1 = same_tally (tree_entry_at g z t) b q.0 k q.1 e q.2 in omega (arith, q.3, full t)
 
-  cpu_fits : (t : Tree) (x s k : ℕ) → cpu_entry_at g z j ≡ CpuEntry.Holds t s k → k + x ≤ capacity g t.0 → CpuPasses g z j t x → ⊥
+  cpu_fits : (t : Tree) (x s k : ℕ) → cpu_entry_at g z j ≡ Some (CpuEntry.Holds t s k) → k + x ≤ capacity g t.0 → CpuPasses g z j t x → ⊥
   cpu_fits t x s k e m q = let w : k ≡ q.1 = same_entry (cpu_entry_at g z j) t s q.0 k q.1 e q.2 in omega (arith, q.3, full t)
 
   -- x added to a tree's count
-  told_add : (r : Record) (t : Tree) (x y : ℕ) → y ≡ x → (n : ℕ → ℕ) (a : Answer) → (number a ≡ 0) ⊎ (number a ≡ 1) → ((tree_entry_at g z t ≡ TreeEntry.Damaged) ⊎ TreePasses g z t y → Damage g z r)
-      → (Damage g z r → (tree_entry_at g z t ≡ TreeEntry.Damaged) ⊎ TreePasses g z t y) → (NotTaken g z r → ⊥) → Told g z r (carried g z (tree_entry t (λ b k. store (tally (n b) (k + x)) a)))
+  told_add : (r : Record) (t : Tree) (x y : ℕ) → y ≡ x → (n : ℕ → ℕ) (a : Answer) → (number a ≡ 0) ⊎ (number a ≡ 1) → ((tree_entry_at g z t ≡ None) ⊎ TreePasses g z t y → Damage g z r)
+      → (Damage g z r → (tree_entry_at g z t ≡ None) ⊎ TreePasses g z t y) → (NotTaken g z r → ⊥) → Told g z r (carried g z (tree_entry t (λ b k. store (tally (n b) (k + x)) a)))
   told_add r t x y same n a ea d u f = told_tree g z r t _ (λ e. d (inl e)) (λ b k e l. told_count g z r t (n b) (k + x) a
       (λ m. goes g z r _ (λ q. sound (count_clash _ b k e) (tree_fits t y b k e (omega arith)) (u q)) f ea) (λ m. d (inr (b, k, e, omega (arith, full t)))))
 
   -- x added to the own entry's count, if it holds tree t
-  told_own_add : (r : Record) (t : Tree) (x y : ℕ) → y ≡ x → (a a' : Answer) → (number a ≡ 0) ⊎ (number a ≡ 1) → number a' ≡ 1 → ((cpu_entry_at g z j ≡ CpuEntry.Damaged) ⊎ CpuPasses g z j t y → Damage g z r)
-      → (Damage g z r → (cpu_entry_at g z j ≡ CpuEntry.Damaged) ⊎ CpuPasses g z j t y) → (NotTaken g z r → ⊥) → Told g z r (carried g z (if_own_holds g j t (λ s k. store (CpuEntry.Holds t s (k + x)) a) (look a')))
+  told_own_add : (r : Record) (t : Tree) (x y : ℕ) → y ≡ x → (a a' : Answer) → (number a ≡ 0) ⊎ (number a ≡ 1) → number a' ≡ 1 → ((cpu_entry_at g z j ≡ None) ⊎ CpuPasses g z j t y → Damage g z r)
+      → (Damage g z r → (cpu_entry_at g z j ≡ None) ⊎ CpuPasses g z j t y) → (NotTaken g z r → ⊥) → Told g z r (carried g z (if_own_holds g j t (λ s k. store (CpuEntry.Holds t s (k + x)) a) (look a')))
   told_own_add r t x y same a a' ea eb d u f = told_own r t _ a' (inl eb) (λ e. d (inl e)) f (λ v w q. sound v (λ q. w q.0 q.1 q.2) (u q)) (λ s k e p. elim (dec_le (k + x) (capacity g t.0)) [
     | yes m ↦ told_holds g z r j t s (k + x) a (p.0, (p.1.0, (omega arith, tt))) (goes g z r _ (λ q. sound (clash _ t s k e) (cpu_fits t y s k e (omega arith)) (u q)) f ea)
     | no m ↦ told_passes g z r j t s (k + x) a (omega arith) (damaged g z r (d (inr (s, k, e, omega (arith, full t)))))
@@ -253,7 +255,7 @@ module _ (n : ℕ) (z : Zone) (n+ : 0 < n) (j : ℕ) (l : j < length z.cpus) whe
   unfolding steal_count
   steal_number o i t x = pick_elim (λ a. number a ≡ 1) _ (λ b. refl) (λ b. refl)
 
-  child_fits : (i s k : ℕ) → child z i ≡ ChildEntry.Counts k → k + s ≤ child_frames → ChildPasses g z i s → ⊥
+  child_fits : (i s k : ℕ) → child z i ≡ Some (ChildEntry.Counts k) → k + s ≤ child_frames → ChildPasses g z i s → ⊥
   child_fits i s k e l (inl q) = count_flag _ k e q
   child_fits i s k e l (inr q) = let w : k ≡ q.0 = same_count (child z i) k q.0 e q.1 in omega (arith, q.2)
 
@@ -289,7 +291,7 @@ module _ (n : ℕ) (z : Zone) (n+ : 0 < n) (j : ℕ) (l : j < length z.cpus) whe
       (λ c. told_tree_look g z r (pass_tree p) _ (goes g z r _ d never (inr refl))))
   take_told (Taking.Write o f x) h =
       let r : Record = Record.Get j (Taking.Write o f x) in
-      let w : (cpu_entry_at g z j ≡ CpuEntry.Damaged → ⊥) → Told g z r (to_cpu g j (write g j o f x)) = λ u. pick_elim (λ (m : Made CpuEntry). Told g z r (to_cpu g j m)) (leb (size o) x)
+      let w : (cpu_entry_at g z j ≡ None → ⊥) → Told g z r (to_cpu g j (write g j o f x)) = λ u. pick_elim (λ (m : Made CpuEntry). Told g z r (to_cpu g j m)) (leb (size o) x)
       (λ b. let q = passes_right (found_in g j f) _ h in
       let t : (found_tree f).0 < trees_of g = found_tree_lem g k+ n+ j l f (passes_left (found_in g j f) _ h) in
       told_holds g z r j (found_tree f) 0 (x - size o) _ (t, (kids_some g k+ _ t, (omega (arith, q.0), tt))) (goes g z r _ (sound u (λ q. omega (arith, leb-true (size o) x b, q, order_size o))) never (inr refl)))

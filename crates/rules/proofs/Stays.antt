@@ -1,4 +1,5 @@
 -- A get that runs alone keeps what it has ruled out, stage by stage; and at No room every tree is bare.
+use Rattle.std.specs.Prelude.{Option, Result, Ok, Some}
 use mathlib.Core.Path.{◌≡◌, refl, sym, ap, ◌∙◌, subst}
 use mathlib.Core.Logic.{◌≢◌}
 use mathlib.Core.Bool.{false, ◌&&◌}
@@ -15,7 +16,7 @@ use Rattle.laws.specs.Words.{bits, ones, lowest}
 use Rattle.laws.proofs.Words.{lowest_below}
 use Rattle.laws.proofs.Tests.{pick_elim, passes_left, passes_right}
 use Rattle.laws.proofs.Sum.{at_same, sum_single}
-use Rattle.rules.specs.Types.{Tree, Run, Order, Block, ChildEntry, CpuEntry, Took, Bit, Pass, Found, Place, Taking, Record, Answer}
+use Rattle.rules.specs.Types.{Tree, Run, Order, Block, ChildEntry, CpuEntry, Took, Pass, Found, Place, Taking, Record, Answer, Fault}
 use Rattle.rules.specs.Numbers.{child_frames, child_words, word_bits, format1, Shape, per_tree, trees_of, children_of, capacity}
 use Rattle.rules.specs.Conversions.{huge}
 use Rattle.rules.specs.Blocks.{run_size, size, first_of, tree_of_block, frame_at}
@@ -262,7 +263,7 @@ module _ (n : ℕ) (z : Zone) (cs : ℕ → Cpu) (held lost : List Block) (u : U
     no_room_on : (cs j).latest ≡ Record.Get j Taking.NoRoom → So g j o z Taking.NoRoom → On (carried g z (take g j Taking.NoRoom))
     unfolding take carried stored reserves
     no_room_on e q x t m =
-        let own : entry_at g z.cpus j ≡ CpuEntry.Absent = subst (λ r. Wanted (want r) (entry_at g z.cpus j)) e (u.upper.wanted j l) in
+        let own : entry_at g z.cpus j ≡ Some CpuEntry.Absent = subst (λ r. Wanted (want r) (entry_at g z.cpus j)) e (u.upper.wanted j l) in
         q.0 t m m (none_reserved n z cs held lost u j l idle t m (ap (λ r. reserves r t) e) (λ i a. elim (ℕ_discrete i j) [
           | yes r ↦ ap (entry_at g z.cpus) r ∙ own
           | no r ↦ q.1 i a a r
@@ -271,7 +272,7 @@ module _ (n : ℕ) (z : Zone) (cs : ℕ → Cpu) (held lost : List Block) (u : U
   -- ---- rule 5
 
   -- a count is stored over a count
-  module _ (i k k' : ℕ) (x : i < n) (e : child_says (get_or z.children i 0) ≡ ChildEntry.Counts k) (m : k' ≤ child_frames) where
+  module _ (i k k' : ℕ) (x : i < n) (e : child_says (get_or z.children i 0) ≡ Some (ChildEntry.Counts k)) (m : k' ≤ child_frames) where
     abbrev childed : Zone
     childed = stored format1 z (Store.child i (count_word k'))
 
@@ -346,8 +347,8 @@ module _ (n : ℕ) (z : Zone) (cs : ℕ → Cpu) (held lost : List Block) (u : U
       let free = true_count n z cs held lost u j l (Order.Run v) idle i inside (ap (λ r. low_of shape r i) e) in
       let W : Answer = get shape j (Taking.Word v p s c 0) in
       let X : Answer = next_child shape j (Order.Run v) p s c in
-      let Q : Lowered Took → Type 0 = λ y. Z v (to_child shape t c (on_took y W plain X)) in
-      let pass : free_of z.children z.words i < run_size v → Q (told Took.Passed) = λ h. rw (passed_plan shape t c W plain X) (passed_on n z cs held lost u j l (Order.Run v) idle p s c a b q h) in
+      let Q : Lowered (Result Took Fault) → Type 0 = λ y. Z v (to_child shape t c (on_took y W plain X)) in
+      let pass : free_of z.children z.words i < run_size v → Q (told (Ok Took.Passed)) = λ h. rw (passed_plan shape t c W plain X) (passed_on n z cs held lost u j l (Order.Run v) idle p s c a b q h) in
       read_child n z cs held lost u (Z v) t c _ b (elim says_is [
         | counts k w ↦ subst Q (sym (claim_counts (run_size v) x k w)) (pick_elim Q (leb (run_size v) k)
             (λ d. rw (taken_plan shape t c (count_word (k - run_size v)) W plain X) (let m : k - run_size v ≤ child_frames = omega (arith, count_fits x k w) in
@@ -363,8 +364,8 @@ module _ (n : ℕ) (z : Zone) (cs : ℕ → Cpu) (held lost : List Block) (u : U
       let B : Block = Block.Whole (huge i) in
       let W : Answer = get shape j (Taking.Last B) in
       let X : Answer = next_child shape j Order.Nine p s c in
-      let Q : Lowered Took → Type 0 = λ y. N (to_child shape t c (on_took y W (takes B) X)) in
-      let pass : free_of z.children z.words i < child_frames → Q (told Took.Passed) = λ h. rw (passed_plan shape t c W (takes B) X) (passed_on n z cs held lost u j l Order.Nine idle p s c a b q h) in
+      let Q : Lowered (Result Took Fault) → Type 0 = λ y. N (to_child shape t c (on_took y W (takes B) X)) in
+      let pass : free_of z.children z.words i < child_frames → Q (told (Ok Took.Passed)) = λ h. rw (passed_plan shape t c W (takes B) X) (passed_on n z cs held lost u j l Order.Nine idle p s c a b q h) in
       read_child n z cs held lost u N t c _ b (elim says_is [
         | counts k w ↦ subst Q (sym (huge_counts x k w)) (pick_elim Q (eqb k child_frames)
             (λ d. rw (taken_plan shape t c flagged_word W (takes B) X) tt)
@@ -387,7 +388,7 @@ module _ (n : ℕ) (z : Zone) (cs : ℕ → Cpu) (held lost : List Block) (u : U
       let A : ℕ → Answer = λ d. get shape j (Taking.Last (Block.Run v (frame_at shape t c w d))) in
       let M : ℕ → Mark = λ d. takes (Block.Run v (frame_at shape t c w d)) in
       let X : Answer = pick (ltb (suc w) child_words) (get shape j (Taking.Word v p s c (suc w))) (get shape j (Taking.GiveBack v p s c)) in
-      let Q : Lowered Bit → Type 0 = λ d. Z v (to_word shape t (child_words * c + w) (on_bit d A M X)) in
+      let Q : Lowered (Option ℕ) → Type 0 = λ d. Z v (to_word shape t (child_words * c + w) (on_bit d A M X)) in
       read_word n z cs held lost u (Z v) t _ _ (omega (arith, b, h)) (subst (λ d. Q (take_run r (get_or z.words d 0))) (sym at-word) (elim (dec_lt (lowest r (word_bits / r) y) (word_bits / r)) [
         | yes d ↦ subst Q (sym (take_run_lem r y d)) (rw (bit_plan shape t (child_words * c + w) (r * lowest r (word_bits / r) y) (y + ones r (r * lowest r (word_bits / r) y)) A M X) tt)
         | no d ↦ subst Q (sym (take_none r y (not_below d))) (rw (full_plan shape t (child_words * c + w) A M X) (go (λ a f m g. elim (ℕ_discrete a w) [

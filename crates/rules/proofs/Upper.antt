@@ -1,4 +1,5 @@
 -- The upper level's invariant: trees, CPU entries and records add up to the free frames F of each tree. It knows no word and no child.
+use Rattle.std.specs.Prelude.{Option, Some, None}
 use mathlib.Core.Path.{◌≡◌, refl, sym, ap, ◌∙◌, subst}
 use mathlib.Core.Logic.{◌≢◌}
 use mathlib.Core.List.{List, [], ◌∷◌}
@@ -27,7 +28,7 @@ tally_at ts t = field tree_layout 1 (get_or ts t 0)
 abbrev pub flag_at : List ℕ → ℕ → ℕ
 flag_at ts t = field tree_layout 0 (get_or ts t 0)
 
-abbrev pub entry_at : Shape → List ℕ → ℕ → CpuEntry
+abbrev pub entry_at : Shape → List ℕ → ℕ → Option CpuEntry
 entry_at g es j = cpu_says g (get_or es j 0)
 
 module _ (g : Shape) where
@@ -51,13 +52,13 @@ pub record Upper (g : Shape) (ts es : List ℕ) (R : ℕ → Record) (F : ℕ �
   -- a tree is reserved by one entry or one record
   pub flags : (t : ℕ) → t < trees_of g → flag_at ts t ≡ holders g es t + reserving g R t
   -- no entry breaks its layout, and each is as its CPU's operation wants it
-  pub sound : (j : ℕ) → j < g.cpus → entry_at g es j ≢ CpuEntry.Damaged
+  pub sound : (j : ℕ) → j < g.cpus → entry_at g es j ≢ None
   pub wanted : (j : ℕ) → j < g.cpus → Wanted (want (R j)) (entry_at g es j)
   -- each record is in range, and its CPU's own
   pub proper : (j : ℕ) → j < g.cpus → Proper g j (R j)
 
 -- what is wanted of an entry, an absent one is
-pub absent_wanted : (w : Want) (e : CpuEntry) → e ≡ CpuEntry.Absent → Wanted w e
+pub absent_wanted : (w : Want) (e : Option CpuEntry) → e ≡ Some CpuEntry.Absent → Wanted w e
 absent_wanted anything e h = tt
 absent_wanted (mine t) e h = λ u s k q. let z : ◌≡◌ {A = ℕ} 0 1 = cc in absurd (omega arith)
 absent_wanted gone e h = h
@@ -67,7 +68,7 @@ module _ (g : Shape) (m : Sound g.format) (ts es : List ℕ) (R : ℕ → Record
   move : (ts' es' : List ℕ) (F' : ℕ → ℕ) → length ts' ≡ trees_of g → length es' ≡ g.cpus
       → ((t : ℕ) → t < trees_of g → tally_at ts' t + shares g es' t + owed g r' t + F t ≡ tally_at ts t + shares g es t + owed g r t + F' t)
       → ((t : ℕ) → t < trees_of g → flag_at ts' t + holders g es t + reserves r t ≡ flag_at ts t + holders g es' t + reserves r' t)
-      → ((i : ℕ) → i < g.cpus → entry_at g es' i ≢ CpuEntry.Damaged) → ((i : ℕ) → i < g.cpus → j ≢ i → Wanted (want (R i)) (entry_at g es' i))
+      → ((i : ℕ) → i < g.cpus → entry_at g es' i ≢ None) → ((i : ℕ) → i < g.cpus → j ≢ i → Wanted (want (R i)) (entry_at g es' i))
       → Wanted (want r') (entry_at g es' j) → Proper g j r' → Upper g ts' es' (upd R j r') F'
   move ts' es' F' a b c d s w x y = record {
     trees = a;
@@ -103,8 +104,8 @@ module _ (g : Shape) (m : Sound g.format) (ts es : List ℕ) (R : ℕ → Record
       u.sound (λ i h q. u.wanted i h) w p
 
   -- CPU i's entry is stored
-  entry_stored : (i v : ℕ) (c : CpuEntry) → i < g.cpus → cpu_says g v ≡ c → c ≢ CpuEntry.Damaged
-      → ((t : ℕ) → share t c + owed g r' t ≡ share t (entry_at g es i) + owed g r t) → ((t : ℕ) → has t c + reserves r' t ≡ has t (entry_at g es i) + reserves r t)
+  entry_stored : (i v : ℕ) (c : CpuEntry) → i < g.cpus → cpu_says g v ≡ Some c → Some c ≢ None
+      → ((t : ℕ) → share t (Some c) + owed g r' t ≡ share t (entry_at g es i) + owed g r t) → ((t : ℕ) → has t (Some c) + reserves r' t ≡ has t (entry_at g es i) + reserves r t)
       → ((k : ℕ) → k < g.cpus → j ≢ k → Wanted (want (R k)) (entry_at g (set es i v) k)) → Wanted (want r') (entry_at g (set es i v) j) → Proper g j r' → Upper g ts (set es i v) (upd R j r') F
   entry_stored i v c h q d o s w x p =
       let n : i < length es = omega (arith, u.cpus) in
@@ -117,9 +118,9 @@ module _ (g : Shape) (m : Sound g.format) (ts es : List ℕ) (R : ℕ → Record
       ]) w x p
 
   -- the own entry
-  pub own_stored : (c : CpuEntry) → cpu_says g (cpu_word g.format c) ≡ c → c ≢ CpuEntry.Damaged
-      → ((t : ℕ) → share t c + owed g r' t ≡ share t (entry_at g es j) + owed g r t) → ((t : ℕ) → has t c + reserves r' t ≡ has t (entry_at g es j) + reserves r t)
-      → Wanted (want r') c → Proper g j r' → Upper g ts (set es j (cpu_word g.format c)) (upd R j r') F
+  pub own_stored : (c : CpuEntry) → cpu_says g (cpu_word g.format c) ≡ Some c → Some c ≢ None
+      → ((t : ℕ) → share t (Some c) + owed g r' t ≡ share t (entry_at g es j) + owed g r t) → ((t : ℕ) → has t (Some c) + reserves r' t ≡ has t (entry_at g es j) + reserves r t)
+      → Wanted (want r') (Some c) → Proper g j r' → Upper g ts (set es j (cpu_word g.format c)) (upd R j r') F
   own_stored c q d o s w p =
       let v : ℕ = cpu_word g.format c in
       let n : j < length es = omega (arith, u.cpus) in

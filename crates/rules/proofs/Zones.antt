@@ -1,4 +1,5 @@
 -- What open and close look at, decided: damaged entries, fields under a flag, and whether the zone is settled.
+use Rattle.std.specs.Prelude.{Option, Some, None}
 use mathlib.Core.Path.{◌≡◌, refl, sym, ◌∙◌}
 use mathlib.Core.Logic.{◌≢◌}
 use mathlib.Core.Bool.{Bool, true, false, not}
@@ -30,63 +31,63 @@ use Rattle.rules.proofs.Phases.{zeros_at_lem}
 
 -- ---- one entry
 
-formed_is : (x : ℕ) → Decides (not (well_formed x)) (child_says x ≡ ChildEntry.Damaged)
+formed_is : (x : ℕ) → Decides (not (well_formed x)) (child_says x ≡ None)
 unfolding well_formed by_child
 formed_is x = go (child_says x)
   where
-    go : (e : ChildEntry) → Decides (not (by_child e false (λ k. true) true)) (e ≡ ChildEntry.Damaged)
-    go ChildEntry.Damaged = record { when_true = λ q. refl; when_false = λ q. true_false q }
-    go (ChildEntry.Counts k) = record { when_true = λ q. true_false (sym q); when_false = λ q h. let z : ◌≡◌ {A = ℕ} 0 1 = cc in omega arith }
-    go ChildEntry.Flagged = record { when_true = λ q. true_false (sym q); when_false = λ q h. let z : ◌≡◌ {A = ℕ} 0 1 = cc in omega arith }
+    go : (e : Option ChildEntry) → Decides (not (by_child e false (λ k. true) true)) (e ≡ None)
+    go None = record { when_true = λ q. refl; when_false = λ q. true_false q }
+    go (Some (ChildEntry.Counts k)) = record { when_true = λ q. true_false (sym q); when_false = λ q h. let z : ◌≡◌ {A = ℕ} 0 1 = cc in omega arith }
+    go (Some ChildEntry.Flagged) = record { when_true = λ q. true_false (sym q); when_false = λ q h. let z : ◌≡◌ {A = ℕ} 0 1 = cc in omega arith }
 
-flag_is : (x : ℕ) (b : Bool) (P : Type 0) → Decides (not b) P → Decides (not (pick (is_flagged x) b true)) ((child_says x ≡ ChildEntry.Flagged) × P)
+flag_is : (x : ℕ) (b : Bool) (P : Type 0) → Decides (not b) P → Decides (not (pick (is_flagged x) b true)) ((child_says x ≡ (Some ChildEntry.Flagged)) × P)
 unfolding is_flagged by_child pick
 flag_is x b P d = go (child_says x)
   where
-    go : (e : ChildEntry) → Decides (not (pick (by_child e false (λ k. false) true) b true)) ((e ≡ ChildEntry.Flagged) × P)
-    go ChildEntry.Damaged = record { when_true = λ q. true_false (sym q); when_false = λ q h. let z : ◌≡◌ {A = ℕ} 0 1 = cc h.0 in omega arith }
-    go (ChildEntry.Counts k) = record { when_true = λ q. true_false (sym q); when_false = λ q h. let z : ◌≡◌ {A = ℕ} 0 1 = cc h.0 in omega arith }
-    go ChildEntry.Flagged = record { when_true = λ q. (refl, d.when_true q); when_false = λ q h. d.when_false q h.1 }
+    go : (e : Option ChildEntry) → Decides (not (pick (by_child e false (λ k. false) true) b true)) ((e ≡ (Some ChildEntry.Flagged)) × P)
+    go None = record { when_true = λ q. true_false (sym q); when_false = λ q h. let z : ◌≡◌ {A = ℕ} 0 1 = cc h.0 in omega arith }
+    go (Some (ChildEntry.Counts k)) = record { when_true = λ q. true_false (sym q); when_false = λ q h. let z : ◌≡◌ {A = ℕ} 0 1 = cc h.0 in omega arith }
+    go (Some ChildEntry.Flagged) = record { when_true = λ q. (refl, d.when_true q); when_false = λ q h. d.when_false q h.1 }
 
-tree_is : (e : TreeEntry) → Decides (not (by_tree e false (λ r k. true))) (e ≡ TreeEntry.Damaged)
+tree_is : (e : Option TreeEntry) → Decides (not (by_tree e false (λ r k. true))) (e ≡ None)
 unfolding by_tree
-tree_is TreeEntry.Damaged = record { when_true = λ q. refl; when_false = λ q. true_false q }
-tree_is (TreeEntry.Counts r k) = record { when_true = λ q. true_false (sym q); when_false = λ q h. let z : ◌≡◌ {A = ℕ} 0 1 = cc in omega arith }
+tree_is None = record { when_true = λ q. refl; when_false = λ q. true_false q }
+tree_is (Some e) = record { when_true = λ q. true_false (sym q); when_false = λ q h. let z : ◌≡◌ {A = ℕ} 0 1 = cc in omega arith }
 
-cpu_is : (e : CpuEntry) → Decides (not (by_cpu e false true (λ t s k. true))) (e ≡ CpuEntry.Damaged)
+cpu_is : (e : Option CpuEntry) → Decides (not (by_cpu e false true (λ t s k. true))) (e ≡ None)
 unfolding by_cpu
-cpu_is CpuEntry.Damaged = record { when_true = λ q. refl; when_false = λ q. true_false q }
-cpu_is CpuEntry.Absent = record { when_true = λ q. true_false (sym q); when_false = λ q h. let z : ◌≡◌ {A = ℕ} 0 1 = cc in omega arith }
-cpu_is (CpuEntry.Holds t s k) = record { when_true = λ q. true_false (sym q); when_false = λ q h. let z : ◌≡◌ {A = ℕ} 0 1 = cc in omega arith }
+cpu_is None = record { when_true = λ q. refl; when_false = λ q. true_false q }
+cpu_is (Some CpuEntry.Absent) = record { when_true = λ q. true_false (sym q); when_false = λ q h. let z : ◌≡◌ {A = ℕ} 0 1 = cc in omega arith }
+cpu_is (Some (CpuEntry.Holds t s k)) = record { when_true = λ q. true_false (sym q); when_false = λ q h. let z : ◌≡◌ {A = ℕ} 0 1 = cc in omega arith }
 
 -- a child that is not damaged, if its a is clear, counts n
-count_is : (x n : ℕ) → (child_says x ≡ ChildEntry.Damaged → ⊥) → Decides (pick (is_flagged x) true (eqb (count_in x) n)) ((k : ℕ) → child_says x ≡ ChildEntry.Counts k → k ≡ n)
+count_is : (x n : ℕ) → (child_says x ≡ None → ⊥) → Decides (pick (is_flagged x) true (eqb (count_in x) n)) ((k : ℕ) → child_says x ≡ Some (ChildEntry.Counts k) → k ≡ n)
 unfolding is_flagged count_in by_child pick
 count_is x n = go (child_says x)
   where
-    go : (e : ChildEntry) → (e ≡ ChildEntry.Damaged → ⊥) → Decides (pick (by_child e false (λ k. false) true) true (eqb (by_child e 0 (λ k. k) 0) n)) ((k : ℕ) → e ≡ ChildEntry.Counts k → k ≡ n)
-    go ChildEntry.Damaged h = absurd (h refl)
-    go (ChildEntry.Counts c) h = decides_iff _ _ _ (λ p k e. let q : c ≡ k = cc in sym q ∙ p) (λ f. f c refl) (decides_eq c n)
-    go ChildEntry.Flagged h = record { when_true = λ q k e. let z : ◌≡◌ {A = ℕ} 0 1 = cc in absurd (omega arith); when_false = λ q. true_false q }
+    go : (e : Option ChildEntry) → (e ≡ None → ⊥) → Decides (pick (by_child e false (λ k. false) true) true (eqb (by_child e 0 (λ k. k) 0) n)) ((k : ℕ) → e ≡ Some (ChildEntry.Counts k) → k ≡ n)
+    go None h = absurd (h refl)
+    go (Some (ChildEntry.Counts c)) h = decides_iff _ _ _ (λ p k e. let q : c ≡ k = cc in sym q ∙ p) (λ f. f c refl) (decides_eq c n)
+    go (Some ChildEntry.Flagged) h = record { when_true = λ q k e. let z : ◌≡◌ {A = ℕ} 0 1 = cc in absurd (omega arith); when_false = λ q. true_false q }
 
 -- ---- what entries count
 
-tree_counts : (e : TreeEntry) → by_tree e 0 (λ r k. k) ≡ of_tree e
+tree_counts : (e : Option TreeEntry) → by_tree e 0 (λ r k. k) ≡ of_tree e
 unfolding by_tree
-tree_counts TreeEntry.Damaged = refl
-tree_counts (TreeEntry.Counts r k) = refl
+tree_counts None = refl
+tree_counts (Some e) = refl
 
-cpu_counts : (t : Tree) (e : CpuEntry) → by_cpu e 0 0 (λ u s k. pick (eqb u.0 t.0) k 0) ≡ of_cpu t e
+cpu_counts : (t : Tree) (e : Option CpuEntry) → by_cpu e 0 0 (λ u s k. pick (eqb u.0 t.0) k 0) ≡ of_cpu t e
 unfolding by_cpu
-cpu_counts t CpuEntry.Damaged = refl
-cpu_counts t CpuEntry.Absent = refl
-cpu_counts t (CpuEntry.Holds u s k) = refl
+cpu_counts t None = refl
+cpu_counts t (Some CpuEntry.Absent) = refl
+cpu_counts t (Some (CpuEntry.Holds u s k)) = refl
 
-child_counts : (e : ChildEntry) → by_child e 0 (λ k. k) 0 ≡ of_child e
+child_counts : (e : Option ChildEntry) → by_child e 0 (λ k. k) 0 ≡ of_child e
 unfolding by_child
-child_counts ChildEntry.Damaged = refl
-child_counts (ChildEntry.Counts k) = refl
-child_counts ChildEntry.Flagged = refl
+child_counts None = refl
+child_counts (Some (ChildEntry.Counts k)) = refl
+child_counts (Some ChildEntry.Flagged) = refl
 
 -- of n bits not all zero one is set
 some_set : (n : ℕ) (b : ℕ → ℕ) → ((i : ℕ) → b i ≤ 1) → sum_to n (λ i. 1 - b i) ≢ n → (i : ℕ) × (i < n) × (b i ≡ 1)
@@ -126,7 +127,7 @@ module _ (n : ℕ) (z : Zone) where
   pub fields_are : Decides (not (flags_empty g z)) (BadField n z)
   unfolding flags_empty
   fields_are = decides_iff _ _ _ (λ h. (h.0, h.1, h.2.0, h.2.1)) (λ h. (h.0, h.1, (h.2, h.3)))
-      (decides_some n _ (λ i. (child z i ≡ ChildEntry.Flagged) × ((f : ℕ) × (f < 512) × (taken z (512 * i + f) ≡ 1))) (λ i l. rw (at_child i l) (flag_is (get_or z.children i 0) (empty_at g z (huge i)) _ (field_is i l))))
+      (decides_some n _ (λ i. (child z i ≡ (Some ChildEntry.Flagged)) × ((f : ℕ) × (f < 512) × (taken z (512 * i + f) ≡ 1))) (λ i l. rw (at_child i l) (flag_is (get_or z.children i 0) (empty_at g z (huge i)) _ (field_is i l))))
 
   pub trees_are : Decides (not (trees_formed g z)) (BadTree n z)
   unfolding trees_formed trees_of
@@ -158,5 +159,5 @@ module _ (n : ℕ) (z : Zone) where
   unfolding settled child_settled trees_of
   settled_is sound = decides_iff _ _ _ (λ p. record { children = p.0; trees = λ t. p.1 t.0 }) (λ s. (s.children, λ i. s.trees (tree i)))
       (decides_both _ _ _ _
-      (decides_all n _ (λ i. (k : ℕ) → child z i ≡ ChildEntry.Counts k → k ≡ sum_to 512 (λ f. 1 - taken z (512 * i + f))) (λ i l. rw (at_child i l, zeros_of i l) (count_is (get_or z.children i 0) _ (λ e. sound (i, l, e)))))
+      (decides_all n _ (λ i. (k : ℕ) → child z i ≡ Some (ChildEntry.Counts k) → k ≡ sum_to 512 (λ f. 1 - taken z (512 * i + f))) (λ i l. rw (at_child i l, zeros_of i l) (count_is (get_or z.children i 0) _ (λ e. sound (i, l, e)))))
       (decides_all (trees_of g) _ _ (λ i l. tree_settled_lem (tree i))))

@@ -1,6 +1,6 @@
 -- The numbers an answer may carry: document 01's number, frame and record for each case.
 use Rattle.std.specs.Prelude.{ℕ}
-use Rattle.rules.specs.Types.{Record, Answer}
+use Rattle.rules.specs.Types.{Record, Fault, Answer}
 
 abbrev pub number : Answer → ℕ
 number (Answer.Done f) = 0
@@ -56,3 +56,14 @@ by_next (goes_on r) e f = f r
 -- all answers but 1 hand back the finished record
 abbrev pub record_of : Answer → Record
 record_of a = by_next (next_of a) Record.Finished (λ r. r)
+
+-- the answer to a fault: a malformed entry 12, bits that are not all set 6; what the table has not makes the record one of another zone, 11
+abbrev pub answer_of : Fault → Answer
+answer_of Fault.Damaged = Answer.Damaged
+answer_of Fault.NotTaken = Answer.NotTaken
+answer_of Fault.NoEntry = Answer.BadRecord
+answer_of Fault.NoChild = Answer.BadRecord
+answer_of Fault.NoWord = Answer.BadRecord
+answer_of Fault.NoBit = Answer.BadRecord
+answer_of Fault.NoField = Answer.BadRecord
+answer_of Fault.TooMany = Answer.BadRecord

@@ -1,5 +1,5 @@
 -- The checks that calls share, as refusals in document 01's order: 9, 10, 8; and 8 for the header slice's length before a 9.
-use Rattle.std.specs.Prelude.{Bool, true, false, not, List, [], ◌∷◌, suc, ◌*◌, length}
+use Rattle.std.specs.Prelude.{Bool, true, false, not, List, [], ◌∷◌, suc, ◌*◌, length, Option, Some, None}
 use Rattle.laws.specs.Tests.{Check, ◌below◌, ◌is◌, passes}
 use Rattle.rules.specs.Numbers.{child_words, most_cpus, Shape, trees_of}
 use Rattle.rules.specs.Zone.{Zone, header_of, shape_of}
@@ -9,20 +9,20 @@ use Rattle.rules.specs.Types.{Header, Answer}
 abbrev pub unless : List Check → Answer → Refusal
 unless l a = on (not (passes l)) a
 
-unfoldable pub is_malformed : Header → Bool
-is_malformed Header.Malformed = true
-is_malformed (Header.Running n) = false
-is_malformed (Header.Clean n) = false
+unfoldable pub is_malformed : Option Header → Bool
+is_malformed None = true
+is_malformed (Some (Header.Running n)) = false
+is_malformed (Some (Header.Clean n)) = false
 
-unfoldable pub is_clean : Header → Bool
-is_clean Header.Malformed = false
-is_clean (Header.Running n) = false
-is_clean (Header.Clean n) = true
+unfoldable pub is_clean : Option Header → Bool
+is_clean None = false
+is_clean (Some (Header.Running n)) = false
+is_clean (Some (Header.Clean n)) = true
 
-unfoldable pub is_running : Header → Bool
-is_running Header.Malformed = false
-is_running (Header.Running n) = true
-is_running (Header.Clean n) = false
+unfoldable pub is_running : Option Header → Bool
+is_running None = false
+is_running (Some (Header.Running n)) = true
+is_running (Some (Header.Clean n)) = false
 
 abbrev pub header_checks : Zone → List Check
 header_checks z = length z.header is 1 ∷ []

@@ -1,8 +1,8 @@
 -- Frame, huge-frame and tree numbers count different things: the conversions between them.
-use Rattle.std.specs.Prelude.{ℕ, ◌*◌, ◌/◌, ◌%◌, ◌^◌, ltb}
+use Rattle.std.specs.Prelude.{ℕ, ◌*◌, ◌/◌, ◌%◌, ◌^◌, ltb, Option, Some, None}
 use Rattle.laws.specs.Tests.{pick}
 use Rattle.rules.specs.Numbers.{child_frames, Format}
-use Rattle.rules.specs.Types.{Frame, Huge, Tree, HugeAt, TreeAt}
+use Rattle.rules.specs.Types.{Frame, Huge, Tree}
 
 abbrev pub frame : ℕ → Frame
 frame i = record { 0 = i }
@@ -31,8 +31,8 @@ abbrev pub first_huge : Format → Tree → Huge
 first_huge m t = huge (t.0 * m.children)
 
 -- as the types hold them: a huge-frame number has 32 bits, a tree number 16
-abbrev pub huge_at : Frame → HugeAt
-huge_at f = pick (ltb (huge_of f).0 (2 ^ 32)) (HugeAt.At (huge_of f)) HugeAt.Nowhere
+abbrev pub huge_at : Frame → Option Huge
+huge_at f = pick (ltb (huge_of f).0 (2 ^ 32)) (Some (huge_of f)) None
 
-abbrev pub tree_at : Format → Huge → TreeAt
-tree_at m h = pick (ltb (tree_of m h).0 (2 ^ 16)) (TreeAt.At (tree_of m h)) TreeAt.Nowhere
+abbrev pub tree_at : Format → Huge → Option Tree
+tree_at m h = pick (ltb (tree_of m h).0 (2 ^ 16)) (Some (tree_of m h)) None

@@ -1,5 +1,5 @@
 -- The upper level's packed entries: what a header, a tree and a CPU entry say, and the words that say it.
-use Rattle.std.specs.Prelude.{List, [], ◌∷◌, ℕ, suc, ◌+◌, ◌-◌, eqb, leb, get_or}
+use Rattle.std.specs.Prelude.{List, [], ◌∷◌, ℕ, suc, ◌+◌, ◌-◌, eqb, leb, get_or, Option, Some, None}
 use Rattle.laws.specs.Tests.{pick, Check, ◌below◌, ◌is◌, passes}
 use Rattle.laws.specs.Fields.{split, join}
 use Rattle.rules.specs.Numbers.{most_huge, Format, Shape, trees_of, children_of, capacity}
@@ -30,13 +30,13 @@ header_checks x = field header_layout 0 x is identifier ∷ field header_layout 
 abbrev pub marker_of : ℕ → ℕ
 marker_of x = field header_layout 2 x
 
-unfoldable pub header_says : ℕ → Header
+unfoldable pub header_says : ℕ → Option Header
 header_says x =
     pick (passes (header_checks x))
     (pick (eqb (marker_of x) running)
-    (Header.Running (field header_layout 3 x))
-    (pick (eqb (marker_of x) clean) (Header.Clean (field header_layout 3 x)) Header.Malformed))
-    Header.Malformed
+    (Some (Header.Running (field header_layout 3 x)))
+    (pick (eqb (marker_of x) clean) (Some (Header.Clean (field header_layout 3 x))) None))
+    None
 
 unfoldable pub header_word : ℕ → ℕ → ℕ
 header_word marker n = join header_layout (identifier ∷ 1 ∷ marker ∷ n ∷ 0 ∷ [])
@@ -45,8 +45,11 @@ header_word marker n = join header_layout (identifier ∷ 1 ∷ marker ∷ n ∷
 abbrev pub tree_layout : List ℕ
 tree_layout = 1 ∷ 15 ∷ []
 
-unfoldable pub tree_says : Shape → Tree → ℕ → TreeEntry
-tree_says g t x = pick (leb (field tree_layout 1 x) (capacity g t.0)) (TreeEntry.Counts (field tree_layout 0 x) (field tree_layout 1 x)) TreeEntry.Damaged
+abbrev pub tallied : ℕ → ℕ → TreeEntry
+tallied r k = record { reserved = r; count = k }
+
+unfoldable pub tree_says : Shape → Tree → ℕ → Option TreeEntry
+tree_says g t x = pick (leb (field tree_layout 1 x) (capacity g t.0)) (Some (tallied (field tree_layout 0 x) (field tree_layout 1 x))) None
 
 unfoldable pub tree_word : ℕ → ℕ → ℕ
 tree_word r k = join tree_layout (r ∷ k ∷ [])
@@ -59,17 +62,16 @@ cpu_layout m = 1 ∷ m.tree_bits ∷ m.start_bits ∷ m.count_bits ∷ (63 - (m.
 abbrev pub holds_checks : Shape → Tree → ℕ → ℕ → List Check
 holds_checks g t s k = t.0 below trees_of g ∷ s below children_of g t.0 ∷ k below suc (capacity g t.0) ∷ []
 
-unfoldable pub cpu_says : Shape → ℕ → CpuEntry
+unfoldable pub cpu_says : Shape → ℕ → Option CpuEntry
 cpu_says g x =
     let f : ℕ → ℕ = λ i. field (cpu_layout g.format) i x in
     pick (eqb x 0)
-    CpuEntry.Absent
+    (Some CpuEntry.Absent)
     (pick (passes (f 0 is 1 ∷ f 4 is 0 ∷ holds_checks g (tree (f 1)) (f 2) (f 3)))
-    (CpuEntry.Holds (tree (f 1)) (f 2) (f 3))
-    CpuEntry.Damaged)
+    (Some (CpuEntry.Holds (tree (f 1)) (f 2) (f 3)))
+    None)
 
 unfoldable pub cpu_word : Format → CpuEntry → ℕ
-cpu_word m CpuEntry.Damaged = 0
 cpu_word m CpuEntry.Absent = 0
 cpu_word m (CpuEntry.Holds t s k) = join (cpu_layout m) (1 ∷ t.0 ∷ s ∷ k ∷ 0 ∷ [])
 

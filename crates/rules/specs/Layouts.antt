@@ -1,11 +1,11 @@
 -- Packed entries: split after join gives the fields, join after split the word; what is stored is read again; and what "breaks its layout" means.
-use Rattle.std.specs.Prelude.{◌≡◌, ◌⊎◌, ◌↔◌, List, ℕ, ◌+◌, ◌*◌, ◌^◌, ◌≤◌, ◌<◌}
+use Rattle.std.specs.Prelude.{◌≡◌, ◌⊎◌, ◌↔◌, List, ℕ, ◌+◌, ◌*◌, ◌^◌, ◌≤◌, ◌<◌, Some, None}
 use Rattle.laws.specs.Tests.{Passes}
 use Rattle.laws.specs.Fields.{width, split, join, Fit}
 use Rattle.rules.specs.Types.{Tree, Header, ChildEntry, TreeEntry, CpuEntry}
 use Rattle.rules.specs.Numbers.{child_frames, most_huge, Format, format1, Shape, capacity}
 use Rattle.rules.specs.Conversions.{tree}
-use Rattle.rules.specs.Entries.{field, header_layout, running, clean, header_says, header_word, tree_layout, tree_says, tree_word, cpu_layout, holds_checks, cpu_says, cpu_word}
+use Rattle.rules.specs.Entries.{field, header_layout, running, clean, header_says, header_word, tree_layout, tree_says, tree_word, cpu_layout, holds_checks, cpu_says, cpu_word, tallied}
 use Rattle.rules.specs.Lower.{child_layout, child_says, count_word, flagged_word}
 
 -- ---- what a format's widths must hold
@@ -43,14 +43,14 @@ pub record Layouts : Type 0 where
   pub tree : Trips tree_layout 16
   pub cpu : Trips (cpu_layout format1) 64
   -- what is stored is read again
-  pub running : (n : ℕ) → 0 < n → n ≤ most_huge → header_says (header_word running n) ≡ Header.Running n
-  pub clean : (n : ℕ) → 0 < n → n ≤ most_huge → header_says (header_word clean n) ≡ Header.Clean n
-  pub counts : (k : ℕ) → k ≤ child_frames → child_says (count_word k) ≡ ChildEntry.Counts k
-  pub flagged : child_says flagged_word ≡ ChildEntry.Flagged
-  pub tallies : (g : Shape) (t : Tree) (r k : ℕ) → Sound g.format → r < 2 → k ≤ capacity g t.0 → tree_says g t (tree_word r k) ≡ TreeEntry.Counts r k
-  pub holds : (g : Shape) (t : Tree) (s k : ℕ) → Sound g.format → g.huge ≤ most_huge → Passes (holds_checks g t s k) → cpu_says g (cpu_word g.format (CpuEntry.Holds t s k)) ≡ CpuEntry.Holds t s k
-  pub absent : (g : Shape) → cpu_says g (cpu_word g.format CpuEntry.Absent) ≡ CpuEntry.Absent
+  pub running : (n : ℕ) → 0 < n → n ≤ most_huge → header_says (header_word running n) ≡ Some (Header.Running n)
+  pub clean : (n : ℕ) → 0 < n → n ≤ most_huge → header_says (header_word clean n) ≡ Some (Header.Clean n)
+  pub counts : (k : ℕ) → k ≤ child_frames → child_says (count_word k) ≡ Some (ChildEntry.Counts k)
+  pub flagged : child_says flagged_word ≡ (Some ChildEntry.Flagged)
+  pub tallies : (g : Shape) (t : Tree) (r k : ℕ) → Sound g.format → r < 2 → k ≤ capacity g t.0 → tree_says g t (tree_word r k) ≡ Some (tallied r k)
+  pub holds : (g : Shape) (t : Tree) (s k : ℕ) → Sound g.format → g.huge ≤ most_huge → Passes (holds_checks g t s k) → cpu_says g (cpu_word g.format (CpuEntry.Holds t s k)) ≡ Some (CpuEntry.Holds t s k)
+  pub absent : (g : Shape) → cpu_says g (cpu_word g.format CpuEntry.Absent) ≡ Some CpuEntry.Absent
   -- damaged exactly where the layout is broken
-  pub bad_child : (x : ℕ) → child_says x ≡ ChildEntry.Damaged ↔ (ChildLaidOut x → ⊥)
-  pub bad_tree : (g : Shape) (t : Tree) (x : ℕ) → tree_says g t x ≡ TreeEntry.Damaged ↔ (TreeLaidOut g t x → ⊥)
-  pub bad_cpu : (g : Shape) (x : ℕ) → cpu_says g x ≡ CpuEntry.Damaged ↔ (CpuLaidOut g x → ⊥)
+  pub bad_child : (x : ℕ) → child_says x ≡ None ↔ (ChildLaidOut x → ⊥)
+  pub bad_tree : (g : Shape) (t : Tree) (x : ℕ) → tree_says g t x ≡ None ↔ (TreeLaidOut g t x → ⊥)
+  pub bad_cpu : (g : Shape) (x : ℕ) → cpu_says g x ≡ None ↔ (CpuLaidOut g x → ⊥)

@@ -1,12 +1,12 @@
 -- The lower level: one child entry, one word, a tree's part of both. What a child says, and how a rule changes a child or a word, stands here alone: the rules above name the entry and cite these definitions.
-use Rattle.std.specs.Prelude.{Bool, true, false, List, [], ◌∷◌, ℕ, suc, ◌+◌, ◌-◌, ◌*◌, ◌/◌, ◌^◌, eqb, leb, ltb, get_or}
+use Rattle.std.specs.Prelude.{Bool, true, false, List, [], ◌∷◌, ℕ, suc, ◌+◌, ◌-◌, ◌*◌, ◌/◌, ◌^◌, eqb, leb, ltb, get_or, Option, Some, None, Result, Ok, Err}
 use Rattle.laws.specs.Tests.{pick, ◌below◌, ◌is◌, passes}
 use Rattle.laws.specs.Sum.{sum_to}
 use Rattle.laws.specs.Fields.{join}
 use Rattle.laws.specs.Words.{zeros, ones, bits, lowest}
 use Rattle.rules.specs.Numbers.{child_frames, child_words, word_bits}
 use Rattle.rules.specs.Entries.{field}
-use Rattle.rules.specs.Types.{ChildEntry, Took, Bit, Gave}
+use Rattle.rules.specs.Types.{ChildEntry, Took, Fault}
 
 -- an entry after a step: as it was, or another
 pub data Change (A : Type 0) : Type 0 where
@@ -22,14 +22,14 @@ pub record Lowered (A : Type 0) : Type 0 where
 abbrev pub child_layout : List ℕ
 child_layout = 1 ∷ 5 ∷ 10 ∷ []
 
-unfoldable pub child_says : ℕ → ChildEntry
+unfoldable pub child_says : ℕ → Option ChildEntry
 child_says x =
     let a : ℕ = field child_layout 0 x in
     let zero : ℕ = field child_layout 1 x in
     let count : ℕ = field child_layout 2 x in
     pick (passes (a is 0 ∷ zero is 0 ∷ count below suc child_frames ∷ []))
-    (ChildEntry.Counts count)
-    (pick (passes (a is 1 ∷ zero is 0 ∷ count is 0 ∷ [])) ChildEntry.Flagged ChildEntry.Damaged)
+    (Some (ChildEntry.Counts count))
+    (pick (passes (a is 1 ∷ zero is 0 ∷ count is 0 ∷ [])) (Some ChildEntry.Flagged) None)
 
 -- the words of a child with a clear, and of one with a set
 unfoldable pub count_word : ℕ → ℕ
@@ -38,10 +38,10 @@ count_word k = join child_layout (0 ∷ 0 ∷ k ∷ [])
 unfoldable pub flagged_word : ℕ
 flagged_word = join child_layout (1 ∷ 0 ∷ 0 ∷ [])
 
-unfoldable pub by_child {ℓ} : {A : Type ℓ} → ChildEntry → A → (ℕ → A) → A → A
-by_child ChildEntry.Damaged d f a = d
-by_child (ChildEntry.Counts k) d f a = f k
-by_child ChildEntry.Flagged d f a = a
+unfoldable pub by_child {ℓ} : {A : Type ℓ} → Option ChildEntry → A → (ℕ → A) → A → A
+by_child None d f a = d
+by_child (Some (ChildEntry.Counts k)) d f a = f k
+by_child (Some ChildEntry.Flagged) d f a = a
 
 -- ---- steps on one child entry
 
@@ -52,32 +52,32 @@ abbrev pub changed : {A : Type 0} → A → ℕ → Lowered A
 changed x v = record { said = x; change = become v }
 
 -- rule 5: a child with a clear and a count of at least s loses s
-unfoldable pub claim : ℕ → ℕ → Lowered Took
-claim s x = by_child (child_says x) (told Took.Damaged) (λ k. pick (leb s k) (changed Took.Taken (count_word (k - s))) (told Took.Passed)) (told Took.Passed)
+unfoldable pub claim : ℕ → ℕ → Lowered (Result Took Fault)
+claim s x = by_child (child_says x) (told (Err Fault.Damaged)) (λ k. pick (leb s k) (changed (Ok Took.Taken) (count_word (k - s))) (told (Ok Took.Passed))) (told (Ok Took.Passed))
 
 -- rule 5: a child with a clear and count 512 becomes one with a set
-unfoldable pub take_huge : ℕ → Lowered Took
-take_huge x = by_child (child_says x) (told Took.Damaged) (λ k. pick (eqb k child_frames) (changed Took.Taken flagged_word) (told Took.Passed)) (told Took.Passed)
+unfoldable pub take_huge : ℕ → Lowered (Result Took Fault)
+take_huge x = by_child (child_says x) (told (Err Fault.Damaged)) (λ k. pick (eqb k child_frames) (changed (Ok Took.Taken) flagged_word) (told (Ok Took.Passed))) (told (Ok Took.Passed))
 
 -- a count rises by s; with a set, or past 512, the entry to be stored would break its layout
-unfoldable pub give_count : ℕ → ℕ → Lowered Gave
-give_count s x = by_child (child_says x) (told Gave.Damaged) (λ k. pick (leb (k + s) child_frames) (changed Gave.Given (count_word (k + s))) (told Gave.Damaged)) (told Gave.Damaged)
+unfoldable pub give_count : ℕ → ℕ → Lowered (Result Unit Fault)
+give_count s x = by_child (child_says x) (told (Err Fault.Damaged)) (λ k. pick (leb (k + s) child_frames) (changed (Ok tt) (count_word (k + s))) (told (Err Fault.Damaged))) (told (Err Fault.Damaged))
 
 -- giving back, order 9: a set becomes a clear, count 512
-unfoldable pub clear_huge : ℕ → Lowered Gave
-clear_huge x = by_child (child_says x) (told Gave.Damaged) (λ k. told Gave.NotTaken) (changed Gave.Given (count_word child_frames))
+unfoldable pub clear_huge : ℕ → Lowered (Result Unit Fault)
+clear_huge x = by_child (child_says x) (told (Err Fault.Damaged)) (λ k. told (Err Fault.NotTaken)) (changed (Ok tt) (count_word child_frames))
 
 -- ---- steps on one word
 
 -- rule 5: the lowest run of s zero bits is set
-unfoldable pub take_run : ℕ → ℕ → Lowered Bit
+unfoldable pub take_run : ℕ → ℕ → Lowered (Option ℕ)
 take_run s w =
     let i : ℕ = lowest s (word_bits / s) w in
-    pick (ltb i (word_bits / s)) (changed (Bit.At (s * i)) (w + ones s (s * i))) (told Bit.Full)
+    pick (ltb i (word_bits / s)) (changed (Some (s * i)) (w + ones s (s * i))) (told None)
 
 -- giving back: the run of s bits from b on is cleared
-unfoldable pub clear_run : ℕ → ℕ → ℕ → Lowered Gave
-clear_run s b w = pick (eqb (bits s b w) (2 ^ s - 1)) (changed Gave.Given (w - ones s b)) (told Gave.NotTaken)
+unfoldable pub clear_run : ℕ → ℕ → ℕ → Lowered (Result Unit Fault)
+clear_run s b w = pick (eqb (bits s b w) (2 ^ s - 1)) (changed (Ok tt) (w - ones s b)) (told (Err Fault.NotTaken))
 
 -- ---- what create stores, and what open and close look at
 

@@ -1,11 +1,11 @@
 -- A call as a plan: the answer, and at most one store. Refusals are an ordered list; a step reads one entry and changes it or not.
-use Rattle.std.specs.Prelude.{Bool, true, false, List, [], ◌∷◌, ℕ, ◌+◌, ◌*◌, leb, get_or}
+use Rattle.std.specs.Prelude.{Bool, true, false, List, [], ◌∷◌, ℕ, ◌+◌, ◌*◌, leb, get_or, Option, Some, None, Result, Ok, Err}
 use Rattle.laws.specs.Tests.{pick, passes}
 use Rattle.rules.specs.Numbers.{child_words, Shape, per_tree, capacity}
 use Rattle.rules.specs.Entries.{holds_checks}
 use Rattle.rules.specs.Lower.{Change, keep, become, Lowered}
 use Rattle.rules.specs.Zone.{Zone, Store, nothing, word, child, tree, cpu, child_part, word_part, tree_entry_at, cpu_entry_at}
-use Rattle.rules.specs.Types.{Tree, Block, TreeEntry, CpuEntry, Took, Bit, Gave, Answer}
+use Rattle.rules.specs.Types.{Tree, Block, TreeEntry, CpuEntry, Took, Fault, Answer}
 
 -- a taking store and a clearing store, with their block
 pub data Mark : Type 0 where
@@ -74,18 +74,18 @@ unfoldable pub by_change : {A B : Type 0} → Change A → B → (A → B) → B
 by_change keep k f = k
 by_change (become v) k f = f v
 
-unfoldable pub by_cpu : {A : Type 0} → CpuEntry → A → A → (Tree → ℕ → ℕ → A) → A
-by_cpu CpuEntry.Damaged d a f = d
-by_cpu CpuEntry.Absent d a f = a
-by_cpu (CpuEntry.Holds t s k) d a f = f t s k
+unfoldable pub by_cpu : {A : Type 0} → Option CpuEntry → A → A → (Tree → ℕ → ℕ → A) → A
+by_cpu None d a f = d
+by_cpu (Some CpuEntry.Absent) d a f = a
+by_cpu (Some (CpuEntry.Holds t s k)) d a f = f t s k
 
-unfoldable pub by_tree : {A : Type 0} → TreeEntry → A → (ℕ → ℕ → A) → A
-by_tree TreeEntry.Damaged d f = d
-by_tree (TreeEntry.Counts r k) d f = f r k
+unfoldable pub by_tree : {A : Type 0} → Option TreeEntry → A → (ℕ → ℕ → A) → A
+by_tree None d f = d
+by_tree (Some e) d f = f e.reserved e.count
 
 -- the entry to be stored keeps its layout
 unfoldable pub laid_out : Shape → CpuEntry → Bool
-laid_out g e = by_cpu e false true (λ t s k. passes (holds_checks g t s k))
+laid_out g e = by_cpu (Some e) false true (λ t s k. passes (holds_checks g t s k))
 
 abbrev pub made : {A : Type 0} → Store → Made A → Plan
 made s m = record { store = s; answer = m.answer; mark = m.mark }
@@ -116,25 +116,31 @@ carried g z (word_entry t i f) = to_word g t i (f (get_or (word_part g z t) i 0)
 abbrev pub lowered : {A : Type 0} → Lowered A → Answer → Mark → Made ℕ
 lowered l a m = record { change = l.change; answer = a; mark = m }
 
-unfoldable pub by_took : {A : Type 0} → Took → A → A → A → A
-by_took Took.Taken t p d = t
-by_took Took.Passed t p d = p
-by_took Took.Damaged t p d = d
+unfoldable pub by_took : {A : Type 0} → Result Took Fault → A → A → A → A
+by_took (Ok Took.Taken) t p d = t
+by_took (Ok Took.Passed) t p d = p
+by_took (Err f) t p d = d
 
-unfoldable pub by_bit : {A : Type 0} → Bit → (ℕ → A) → A → A
-by_bit (Bit.At b) f a = f b
-by_bit Bit.Full f a = a
+unfoldable pub by_bit : {A : Type 0} → Option ℕ → (ℕ → A) → A → A
+by_bit (Some b) f a = f b
+by_bit None f a = a
 
-unfoldable pub by_gave : {A : Type 0} → Gave → A → A → A → A
-by_gave Gave.Given g n d = g
-by_gave Gave.NotTaken g n d = n
-by_gave Gave.Damaged g n d = d
+unfoldable pub by_gave : {A : Type 0} → Result Unit Fault → A → A → A → A
+by_gave (Ok tt) g n d = g
+by_gave (Err Fault.NotTaken) g n d = n
+by_gave (Err Fault.Damaged) g n d = d
+by_gave (Err Fault.NoEntry) g n d = d
+by_gave (Err Fault.NoChild) g n d = d
+by_gave (Err Fault.NoWord) g n d = d
+by_gave (Err Fault.NoBit) g n d = d
+by_gave (Err Fault.NoField) g n d = d
+by_gave (Err Fault.TooMany) g n d = d
 
-abbrev pub on_took : Lowered Took → Answer → Mark → Answer → Made ℕ
+abbrev pub on_took : Lowered (Result Took Fault) → Answer → Mark → Answer → Made ℕ
 on_took l a m p = by_took l.said (lowered l a m) (lowered l p plain) (lowered l Answer.Damaged plain)
 
-abbrev pub on_bit : Lowered Bit → (ℕ → Answer) → (ℕ → Mark) → Answer → Made ℕ
+abbrev pub on_bit : Lowered (Option ℕ) → (ℕ → Answer) → (ℕ → Mark) → Answer → Made ℕ
 on_bit l a m p = by_bit l.said (λ b. lowered l (a b) (m b)) (lowered l p plain)
 
-abbrev pub on_gave : Lowered Gave → Answer → Mark → Made ℕ
+abbrev pub on_gave : Lowered (Result Unit Fault) → Answer → Mark → Made ℕ
 on_gave l a m = by_gave l.said (lowered l a m) (lowered l Answer.NotTaken plain) (lowered l Answer.Damaged plain)

@@ -1,5 +1,5 @@
 -- Each number's rule as a fact of the input, in document 01's numbers and apart from the plans; and that a call answers the first number of its list whose rule holds.
-use Rattle.std.specs.Prelude.{◌≡◌, ◌⊎◌, ◌≢◌, List, [], ◌∷◌, ◌++◌, ℕ, ◌+◌, ◌-◌, ◌*◌, ◌/◌, ◌%◌, ◌^◌, ◌≤◌, ◌<◌, eqb, length, get_or}
+use Rattle.std.specs.Prelude.{◌≡◌, ◌⊎◌, ◌≢◌, List, [], ◌∷◌, ◌++◌, ℕ, ◌+◌, ◌-◌, ◌*◌, ◌/◌, ◌%◌, ◌^◌, ◌≤◌, ◌<◌, eqb, length, get_or, Option, Some, None}
 use Rattle.laws.specs.Tests.{pick}
 use Rattle.laws.specs.Sum.{sum_to}
 use Rattle.laws.specs.Words.{bit}
@@ -8,6 +8,7 @@ use Rattle.rules.specs.Numbers.{Shape}
 use Rattle.rules.specs.Conversions.{tree}
 use Rattle.rules.specs.Blocks.{tree_of_block}
 use Rattle.rules.specs.Answers.{number}
+use Rattle.rules.specs.Entries.{tallied}
 use Rattle.rules.specs.Lower.{child_says}
 use Rattle.rules.specs.Zone.{Zone, shaped, tree_entry_at, cpu_entry_at, nothing}
 use Rattle.rules.specs.Plan.{Plan}
@@ -102,7 +103,7 @@ pub data Reads : Type 0 where
   a_word : Reads
 
 -- child i of a zone, and the bit of frame f: 1 is taken
-abbrev pub child : Zone → ℕ → ChildEntry
+abbrev pub child : Zone → ℕ → Option ChildEntry
 child z i = child_says (get_or z.children i 0)
 
 abbrev pub taken : Zone → ℕ → ℕ
@@ -112,21 +113,21 @@ module _ (g : Shape) (z : Zone) where
   -- it breaks its layout; a word has none
   abbrev pub Broken : Reads → Type 0
   Broken no_entry = ⊥
-  Broken (cpu_at j) = cpu_entry_at g z j ≡ CpuEntry.Damaged
-  Broken (tree_at t) = tree_entry_at g z t ≡ TreeEntry.Damaged
-  Broken (child_at i) = child z i ≡ ChildEntry.Damaged
+  Broken (cpu_at j) = cpu_entry_at g z j ≡ None
+  Broken (tree_at t) = tree_entry_at g z t ≡ None
+  Broken (child_at i) = child z i ≡ None
   Broken a_word = ⊥
 
   -- a sum that would pass the capacity, in a tree's entry, and in CPU j's if it holds the tree
   abbrev pub TreePasses : Tree → ℕ → Type 0
-  TreePasses t h = (r : ℕ) × (k : ℕ) × (tree_entry_at g z t ≡ TreeEntry.Counts r k) × (capacity_in g.huge t < k + h)
+  TreePasses t h = (r : ℕ) × (k : ℕ) × (tree_entry_at g z t ≡ Some (tallied r k)) × (capacity_in g.huge t < k + h)
 
   abbrev pub CpuPasses : ℕ → Tree → ℕ → Type 0
-  CpuPasses j t h = (s : ℕ) × (k : ℕ) × (cpu_entry_at g z j ≡ CpuEntry.Holds t s k) × (capacity_in g.huge t < k + h)
+  CpuPasses j t h = (s : ℕ) × (k : ℕ) × (cpu_entry_at g z j ≡ Some (CpuEntry.Holds t s k)) × (capacity_in g.huge t < k + h)
 
   -- a count that would pass 512, or rise with a set
   abbrev pub ChildPasses : ℕ → ℕ → Type 0
-  ChildPasses i s = (child z i ≡ ChildEntry.Flagged) ⊎ ((k : ℕ) × (child z i ≡ ChildEntry.Counts k) × (512 < k + s))
+  ChildPasses i s = (child z i ≡ (Some ChildEntry.Flagged)) ⊎ ((k : ℕ) × (child z i ≡ Some (ChildEntry.Counts k)) × (512 < k + s))
 
   abbrev pub taking_reads : ℕ → Taking → Reads
   taking_reads j (Taking.Own o) = cpu_at j
@@ -183,7 +184,7 @@ module _ (g : Shape) (z : Zone) where
   -- 6: a bit of the run is clear; order 9, a is clear
   abbrev pub GivingFree : Giving → Type 0
   GivingFree (Giving.Clear (Block.Run r f)) = (i : ℕ) × (i < run_frames r) × (taken z (f.0 + i) ≡ 0)
-  GivingFree (Giving.Clear (Block.Whole h)) = (k : ℕ) × (child z h.0 ≡ ChildEntry.Counts k)
+  GivingFree (Giving.Clear (Block.Whole h)) = (k : ℕ) × (child z h.0 ≡ Some (ChildEntry.Counts k))
   GivingFree (Giving.Raise r f) = ⊥
   GivingFree (Giving.ToEntry b) = ⊥
   GivingFree (Giving.ToTree b) = ⊥
@@ -225,33 +226,33 @@ abbrev pub create_step_rules : ℕ → Zone → Record → List Rule
 create_step_rules n z r = size_rules n z ++ (11 when (CreateIn n (length z.cpus) r → ⊥) ∷ [])
 
 -- what an entry counts, and a CPU's of tree t
-abbrev pub of_child : ChildEntry → ℕ
-of_child ChildEntry.Damaged = 0
-of_child (ChildEntry.Counts k) = k
-of_child ChildEntry.Flagged = 0
+abbrev pub of_child : Option ChildEntry → ℕ
+of_child None = 0
+of_child (Some (ChildEntry.Counts k)) = k
+of_child (Some ChildEntry.Flagged) = 0
 
-abbrev pub of_tree : TreeEntry → ℕ
-of_tree TreeEntry.Damaged = 0
-of_tree (TreeEntry.Counts r k) = k
+abbrev pub of_tree : Option TreeEntry → ℕ
+of_tree None = 0
+of_tree (Some e) = e.count
 
-abbrev pub of_cpu : Tree → CpuEntry → ℕ
-of_cpu t CpuEntry.Damaged = 0
-of_cpu t CpuEntry.Absent = 0
-of_cpu t (CpuEntry.Holds u s k) = pick (eqb u.0 t.0) k 0
+abbrev pub of_cpu : Tree → Option CpuEntry → ℕ
+of_cpu t None = 0
+of_cpu t (Some CpuEntry.Absent) = 0
+of_cpu t (Some (CpuEntry.Holds u s k)) = pick (eqb u.0 t.0) k 0
 
 module _ (n : ℕ) (z : Zone) where
   -- a malformed child; a child with a set over a field that isn't all zero; a malformed tree or CPU entry
   abbrev pub BadChild : Type 0
-  BadChild = (i : ℕ) × (i < n) × (child z i ≡ ChildEntry.Damaged)
+  BadChild = (i : ℕ) × (i < n) × (child z i ≡ None)
 
   abbrev pub BadField : Type 0
-  BadField = (i : ℕ) × (i < n) × (child z i ≡ ChildEntry.Flagged) × ((f : ℕ) × (f < 512) × (taken z (512 * i + f) ≡ 1))
+  BadField = (i : ℕ) × (i < n) × (child z i ≡ (Some ChildEntry.Flagged)) × ((f : ℕ) × (f < 512) × (taken z (512 * i + f) ≡ 1))
 
   abbrev pub BadTree : Type 0
-  BadTree = (t : ℕ) × (t < trees_in n) × (tree_entry_at (shaped n z) z (tree t) ≡ TreeEntry.Damaged)
+  BadTree = (t : ℕ) × (t < trees_in n) × (tree_entry_at (shaped n z) z (tree t) ≡ None)
 
   abbrev pub BadCpu : Type 0
-  BadCpu = (j : ℕ) × (j < length z.cpus) × (cpu_entry_at (shaped n z) z j ≡ CpuEntry.Damaged)
+  BadCpu = (j : ℕ) × (j < length z.cpus) × (cpu_entry_at (shaped n z) z j ≡ None)
 
   -- the child that a later step of open reads, or one of the tree's
   abbrev pub BadOpening : Record → Type 0
@@ -259,13 +260,13 @@ module _ (n : ℕ) (z : Zone) where
   BadOpening (Record.Get j s) = ⊥
   BadOpening (Record.Put j s) = ⊥
   BadOpening (Record.Create s) = ⊥
-  BadOpening (Record.Open (Opening.Children h)) = child z h.0 ≡ ChildEntry.Damaged
-  BadOpening (Record.Open (Opening.Trees t)) = (c : ℕ) × (c < children_in n t) × (child z (t.0 * 32 + c) ≡ ChildEntry.Damaged)
+  BadOpening (Record.Open (Opening.Children h)) = child z h.0 ≡ None
+  BadOpening (Record.Open (Opening.Trees t)) = (c : ℕ) × (c < children_in n t) × (child z (t.0 * 32 + c) ≡ None)
   BadOpening (Record.Open (Opening.Cpus j)) = ⊥
 
   -- every child with a clear counts its zero bits, and every tree's count plus the CPU counts that hold it is its children's sum
   pub record Settled : Type 0 where
-    pub children : (i : ℕ) → i < n → (k : ℕ) → child z i ≡ ChildEntry.Counts k → k ≡ sum_to 512 (λ f. 1 - taken z (512 * i + f))
+    pub children : (i : ℕ) → i < n → (k : ℕ) → child z i ≡ Some (ChildEntry.Counts k) → k ≡ sum_to 512 (λ f. 1 - taken z (512 * i + f))
     pub trees : (t : Tree) → t.0 < trees_in n → of_tree (tree_entry_at (shaped n z) z t) + sum_to (length z.cpus) (λ j. of_cpu t (cpu_entry_at (shaped n z) z j)) ≡ sum_to (children_in n t) (λ c. of_child (child z (t.0 * 32 + c)))
 
 abbrev pub open_zone_rules : Zone → List Rule

@@ -1,5 +1,5 @@
 -- What a finished open leaves, over any tree and CPU tables; and that an open cut anywhere and opened again leaves the same.
-use Rattle.std.specs.Prelude.{◌≡◌, ◌⊎◌, true, List, [], ◌∷◌, ℕ, ◌+◌, ◌*◌, ◌^◌, ◌≤◌, ◌<◌, length, get_or, replicate}
+use Rattle.std.specs.Prelude.{◌≡◌, ◌⊎◌, true, List, [], ◌∷◌, ℕ, ◌+◌, ◌*◌, ◌^◌, ◌≤◌, ◌<◌, length, get_or, replicate, Some}
 use Rattle.laws.specs.Tests.{pick}
 use Rattle.laws.specs.Sum.{sum_to}
 use Rattle.rules.specs.Types.{ChildEntry}
@@ -40,8 +40,8 @@ cut_to z ts cs = record { header = z.header; words = z.words; children = z.child
 -- child entries have 16 bits, counts are true and flagged fields empty
 pub record True (z : Zone) : Type 0 where
   pub small : (c : ℕ) → c < (shape_of z).huge → get_or z.children c 0 < 2 ^ 16
-  pub counts : (c : ℕ) → c < (shape_of z).huge → (k : ℕ) → child_says (child_at (shape_of z) z (huge c)) ≡ ChildEntry.Counts k → k ≡ zeros_at (shape_of z) z (huge c)
-  pub fields : (c : ℕ) → c < (shape_of z).huge → child_says (child_at (shape_of z) z (huge c)) ≡ ChildEntry.Flagged → empty_at (shape_of z) z (huge c) ≡ true
+  pub counts : (c : ℕ) → c < (shape_of z).huge → (k : ℕ) → child_says (child_at (shape_of z) z (huge c)) ≡ Some (ChildEntry.Counts k) → k ≡ zeros_at (shape_of z) z (huge c)
+  pub fields : (c : ℕ) → c < (shape_of z).huge → child_says (child_at (shape_of z) z (huge c)) ≡ (Some ChildEntry.Flagged) → empty_at (shape_of z) z (huge c) ≡ true
 
 -- the two zones agree but for the number of their CPUs
 pub record SameBut (y z : Zone) : Type 0 where

@@ -2,8 +2,6 @@
 pub use Rattle.rules.specs.declared.Frame.{Frame}
 pub use Rattle.rules.specs.declared.Huge.{Huge}
 pub use Rattle.rules.specs.declared.Tree.{Tree}
-pub use Rattle.rules.specs.declared.HugeAt.{HugeAt}
-pub use Rattle.rules.specs.declared.TreeAt.{TreeAt}
 pub use Rattle.rules.specs.declared.Run.{Run}
 pub use Rattle.rules.specs.declared.Order.{Order}
 pub use Rattle.rules.specs.declared.Block.{Block}
@@ -12,8 +10,7 @@ pub use Rattle.rules.specs.declared.ChildEntry.{ChildEntry}
 pub use Rattle.rules.specs.declared.TreeEntry.{TreeEntry}
 pub use Rattle.rules.specs.declared.CpuEntry.{CpuEntry}
 pub use Rattle.rules.specs.declared.Took.{Took}
-pub use Rattle.rules.specs.declared.Bit.{Bit}
-pub use Rattle.rules.specs.declared.Gave.{Gave}
+pub use Rattle.rules.specs.declared.Fault.{Fault}
 pub use Rattle.rules.specs.declared.Pass.{Pass}
 pub use Rattle.rules.specs.declared.Found.{Found}
 pub use Rattle.rules.specs.declared.Place.{Place}

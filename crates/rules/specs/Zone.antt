@@ -1,5 +1,5 @@
 -- A zone's five tables, the entries that a step reads, and the one that it stores.
-use Rattle.std.specs.Prelude.{List, ℕ, ◌*◌, length, get_or, set}
+use Rattle.std.specs.Prelude.{List, ℕ, ◌*◌, length, get_or, set, Option, Some, None}
 use Rattle.laws.specs.Parts.{part}
 use Rattle.rules.specs.Numbers.{child_words, Format, format1, Shape, per_tree, children_of}
 use Rattle.rules.specs.Entries.{header_says, tree_says, tree_word, cpu_says, cpu_word}
@@ -13,13 +13,13 @@ pub record Zone : Type 0 where
   pub cpus : List ℕ
 
 -- what the header says, and the zone's shape by it
-unfoldable pub header_of : Zone → Header
+unfoldable pub header_of : Zone → Option Header
 header_of z = header_says (get_or z.header 0 0)
 
-unfoldable pub header_huge : Header → ℕ
-header_huge Header.Malformed = 0
-header_huge (Header.Running n) = n
-header_huge (Header.Clean n) = n
+unfoldable pub header_huge : Option Header → ℕ
+header_huge None = 0
+header_huge (Some (Header.Running n)) = n
+header_huge (Some (Header.Clean n)) = n
 
 abbrev pub shaped : ℕ → Zone → Shape
 shaped n z = record { format = format1; huge = n; cpus = length z.cpus }
@@ -34,10 +34,10 @@ child_part g z t = part (t.0 * per_tree g) (children_of g t.0) z.children
 abbrev pub word_part : Shape → Zone → Tree → List ℕ
 word_part g z t = part (child_words * (t.0 * per_tree g)) (child_words * children_of g t.0) z.words
 
-abbrev pub tree_entry_at : Shape → Zone → Tree → TreeEntry
+abbrev pub tree_entry_at : Shape → Zone → Tree → Option TreeEntry
 tree_entry_at g z t = tree_says g t (get_or z.trees t.0 0)
 
-abbrev pub cpu_entry_at : Shape → Zone → ℕ → CpuEntry
+abbrev pub cpu_entry_at : Shape → Zone → ℕ → Option CpuEntry
 cpu_entry_at g z j = cpu_says g (get_or z.cpus j 0)
 
 -- at most one entry; children and words are numbered in the zone's tables

@@ -6,31 +6,18 @@ ghost use Rattle.rules.specs.Numbers.{format1};
 ghost use Rattle.rules.specs.Conversions.{first_frame, huge_at, first_huge, tree_at};
 ghost use Rattle.rules.specs.Blocks.{exponent, run_size};
 ghost use Rattle.rules.specs.Begin.{run_of};
+ghost use Rattle.rules.specs.Answers.{answer_of};
 
 // ---- numbers: a frame, a huge frame, a tree; none stands in for another
 
-#[derive(Clone, Copy)]
+#[derive(Clone, Copy, PartialEq, Eq)]
 pub struct Frame(pub u64);
 
-#[derive(Clone, Copy)]
+#[derive(Clone, Copy, PartialEq, Eq)]
 pub struct Huge(pub u32);
 
-#[derive(Clone, Copy)]
+#[derive(Clone, Copy, PartialEq, Eq)]
 pub struct Tree(pub u16);
-
-// The huge frame that a frame lies in; nowhere, where the number passes every huge frame's.
-#[derive(Clone, Copy)]
-pub enum HugeAt {
-    At(Huge),
-    Nowhere,
-}
-
-// The tree that a huge frame belongs to; nowhere, where the number passes every tree's.
-#[derive(Clone, Copy)]
-pub enum TreeAt {
-    At(Tree),
-    Nowhere,
-}
 
 // A huge frame's first frame.
 pub fn first_frame(huge: Huge) -> Frame
@@ -39,14 +26,15 @@ pub fn first_frame(huge: Huge) -> Frame
     Frame(huge.0 as u64 * 512)
 }
 
-pub fn huge_of(frame: Frame) -> HugeAt
+// The huge frame that a frame lies in; none, where the number passes every huge frame's.
+pub fn huge_of(frame: Frame) -> Option<Huge>
     ensures { result ≡ huge_at frame }
 {
     let huge = frame.0 / 512;
     if huge < 0x1_0000_0000 {
-        HugeAt::At(Huge(huge as u32))
+        Some(Huge(huge as u32))
     } else {
-        HugeAt::Nowhere
+        None
     }
 }
 
@@ -57,14 +45,15 @@ pub fn first_huge(tree: Tree) -> Huge
     Huge(tree.0 as u32 * 32)
 }
 
-pub fn tree_of(huge: Huge) -> TreeAt
+// The tree that a huge frame belongs to; none, where the number passes every tree's.
+pub fn tree_of(huge: Huge) -> Option<Tree>
     ensures { result ≡ tree_at format1 huge }
 {
     let tree = huge.0 / 32;
     if tree < 0x1_0000 {
-        TreeAt::At(Tree(tree as u16))
+        Some(Tree(tree as u16))
     } else {
-        TreeAt::Nowhere
+        None
     }
 }
 
@@ -139,11 +128,10 @@ pub enum Block {
     Whole(Huge),
 }
 
-// ---- what packed entries say
+// ---- what packed entries say; a malformed one says nothing
 
 #[derive(Clone, Copy)]
 pub enum Header {
-    Malformed,
     Running { huge: u32 },
     Clean { huge: u32 },
 }
@@ -151,47 +139,42 @@ pub enum Header {
 // A child with a clear and its count, or with a set.
 #[derive(Clone, Copy)]
 pub enum ChildEntry {
-    Damaged,
     Counts(u16),
     Flagged,
 }
 
 #[derive(Clone, Copy)]
-pub enum TreeEntry {
-    Damaged,
-    Counts { reserved: u16, count: u16 },
+pub struct TreeEntry {
+    pub reserved: u16,
+    pub count: u16,
 }
 
 #[derive(Clone, Copy)]
 pub enum CpuEntry {
-    Damaged,
     Absent,
     Holds { tree: Tree, start: u8, count: u16 },
 }
 
-// ---- what a step of the lower level says
+// ---- what a step on an entry says
 
 // A claim on a child, or the taking of a huge frame.
-#[derive(Clone, Copy)]
+#[derive(Clone, Copy, PartialEq, Eq)]
 pub enum Took {
     Taken,
     Passed,
+}
+
+// Why nothing is stored: a malformed entry, or a sum or store that would pass a limit; bits that are not all set; what the table or the number has not.
+#[derive(Clone, Copy, PartialEq, Eq)]
+pub enum Fault {
     Damaged,
-}
-
-// The taking of a word's lowest free run: its first bit.
-#[derive(Clone, Copy)]
-pub enum Bit {
-    At(u8),
-    Full,
-}
-
-// A count given back, or a block cleared.
-#[derive(Clone, Copy)]
-pub enum Gave {
-    Given,
     NotTaken,
-    Damaged,
+    NoEntry,
+    NoChild,
+    NoWord,
+    NoBit,
+    NoField,
+    TooMany,
 }
 
 // ---- places (rules 3, 4 and 7)
@@ -355,4 +338,22 @@ pub enum Answer {
     Damaged,
     NotSettled,
     BadSize,
+}
+
+// What a step of a get or put answers to a fault.
+impl From<Fault> for Answer {
+    ghost from_gives = { λ f a. a ≡ answer_of f };
+
+    fn from(fault: Fault) -> Answer {
+        match fault {
+            Fault::Damaged => Answer::Damaged,
+            Fault::NotTaken => Answer::NotTaken,
+            Fault::NoEntry => Answer::BadRecord,
+            Fault::NoChild => Answer::BadRecord,
+            Fault::NoWord => Answer::BadRecord,
+            Fault::NoBit => Answer::BadRecord,
+            Fault::NoField => Answer::BadRecord,
+            Fault::TooMany => Answer::BadRecord,
+        }
+    }
 }

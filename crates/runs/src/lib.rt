@@ -5,7 +5,7 @@ ghost use Rattle.std.specs.Prelude.{◌≡◌, ◌-◌, max};
 ghost use Rattle.rules.specs.Step.{step, runs, follow};
 ghost use Rattle.calls.specs.Results.{zone, ran_to, WentOn};
 
-use calls::{Ended, Next, Way};
+use calls::{Ended, Way};
 use rules::{Answer, Giving, Record, Taking};
 
 // The steps that are left after `made` of `fuel`, one by one.
@@ -21,24 +21,8 @@ pub fn step_on(
 ) -> Ended
     ensures { ran_to result (zone header.now words.new children.new trees.new cpus.new) ≡ follow step (fuel - made) made (Answer.UnderWay rec) (zone header.now words.old children.old trees.old cpus.old) }
 {
-    let mut at = rec;
-    let mut steps = made;
-    while steps < fuel {
-        let answer = upper::step(header, words, children, trees, cpus, at);
-        steps += 1;
-        match calls::next_of(answer) {
-            Next::Ends => {
-                return Ended { answer, steps };
-            }
-            Next::GoesOn(next) => {
-                at = next;
-            }
-        }
-    }
-    Ended {
-        answer: Answer::UnderWay(at),
-        steps,
-    }
+    let mut step = |at: Record| upper::step(header, words, children, trees, cpus, at);
+    calls::follow(&mut step, rec, made, fuel)
 }
 
 // A first stage goes on at once; every other record is left to the steps.
@@ -54,21 +38,15 @@ fn first_way(
     ensures { WentOn step fuel 0 (rec) result (zone header.now words.new children.new trees.new cpus.new) (zone header.now words.old children.old trees.old cpus.old) }
 {
     match rec {
-        Record::Finished => Way::Goes { rec, steps: 0 },
-        Record::Get { cpu, stage } => {
-            if let Taking::Own(order) = stage {
-                return get_runs::get_on(header, words, children, trees, cpus, cpu, order, fuel);
-            }
-            Way::Goes { rec, steps: 0 }
-        }
-        Record::Put { cpu, stage } => {
-            if let Giving::Clear(block) = stage {
-                return put_runs::put_on(header, words, children, trees, cpus, cpu, block, fuel);
-            }
-            Way::Goes { rec, steps: 0 }
-        }
-        Record::Create(_) => Way::Goes { rec, steps: 0 },
-        Record::Open(_) => Way::Goes { rec, steps: 0 },
+        Record::Get {
+            cpu,
+            stage: Taking::Own(order),
+        } => get_runs::get_on(header, words, children, trees, cpus, cpu, order, fuel),
+        Record::Put {
+            cpu,
+            stage: Giving::Clear(block),
+        } => put_runs::put_on(header, words, children, trees, cpus, cpu, block, fuel),
+        _ => Way::Goes { rec, steps: 0 },
     }
 }
 

@@ -3,6 +3,7 @@ pub use Rattle.rules.specs.declared.Frame.{Frame}
 pub use Rattle.rules.specs.declared.Tree.{Tree}
 pub use Rattle.rules.specs.declared.Order.{Order}
 pub use Rattle.rules.specs.declared.Block.{Block}
+pub use Rattle.rules.specs.declared.Fault.{Fault}
 pub use Rattle.rules.specs.declared.Pass.{Pass}
 pub use Rattle.rules.specs.declared.Found.{Found}
 pub use Rattle.rules.specs.declared.Place.{Place}
@@ -10,7 +11,4 @@ pub use Rattle.rules.specs.declared.Taking.{Taking}
 pub use Rattle.rules.specs.declared.Giving.{Giving}
 pub use Rattle.rules.specs.declared.Record.{Record}
 pub use Rattle.rules.specs.declared.Answer.{Answer}
-pub use Rattle.entries.specs.declared.Counted.{Counted}
-pub use Rattle.entries.specs.declared.Added.{Added}
-pub use Rattle.entries.specs.declared.Reserved.{Reserved}
 pub use Rattle.places.specs.declared.Shape.{Shape}

@@ -8,19 +8,17 @@ ghost use Rattle.rules.specs.Take.{take};
 ghost use Rattle.rules.specs.Give.{give};
 ghost use Rattle.places.specs.Shapes.{shape_of, ranged};
 ghost use Rattle.tree_stages.specs.Tables.{in_trees};
-ghost use Rattle.tree_stages.specs.Answers.{take_count_answer, added_answer, try_answer, steal_count_answer};
+ghost use Rattle.tree_stages.specs.Answers.{take_count_answer, try_answer, steal_count_answer};
 
-use entries::{Added, Counted, Reserved};
-use places::{BlockAt, Shape};
-use rules::{Answer, Block, Found, Giving, Order, Pass, Place, Taking, Tree};
+use places::Shape;
+use rules::{Answer, Block, Fault, Found, Giving, Order, Pass, Place, Taking, Tree};
 
-fn take_count_answer(cpu: u8, order: Order, tree: Tree, said: Counted) -> Answer
+fn take_count_answer(cpu: u8, order: Order, tree: Tree, said: Result<u16, Fault>) -> Answer
     ensures { result ≡ take_count_answer cpu order tree said }
 {
     match said {
-        Counted::Count(hand) => calls::get(cpu, Taking::FillEntry { order, tree, hand }),
-        Counted::Damaged => Answer::Damaged,
-        Counted::NoTree => Answer::BadRecord,
+        Ok(hand) => calls::get(cpu, Taking::FillEntry { order, tree, hand }),
+        Err(fault) => Answer::from(fault),
     }
 }
 
@@ -30,16 +28,6 @@ pub fn take_count(trees: &mut [u16], shape: Shape, cpu: u8, order: Order, tree: 
 {
     let said = entries::take_count(trees, shape.size, tree);
     take_count_answer(cpu, order, tree, said)
-}
-
-fn added_answer(added: Answer, said: Added) -> Answer
-    ensures { result ≡ added_answer added said }
-{
-    match said {
-        Added::Added => added,
-        Added::Damaged => Answer::Damaged,
-        Added::NoTree => Answer::BadRecord,
-    }
 }
 
 // Rule 1: the hand is returned to the tree's count.
@@ -54,7 +42,7 @@ pub fn return_hand(
     ensures { outcome result trees.new ≡ in_trees (shape_of shape) (take (shape_of shape) cpu (Taking.ReturnHand order tree hand)) trees.old }
 {
     let said = entries::add_count(trees, shape.size, tree, hand);
-    added_answer(calls::get(cpu, Taking::LookAgain { order, tree }), said)
+    lending::given_answer(calls::get(cpu, Taking::LookAgain { order, tree }), said)
 }
 
 // Rules 2 and 4: the hand to the tree's count, and r is cleared.
@@ -69,7 +57,7 @@ pub fn unreserve(
     ensures { outcome result trees.new ≡ in_trees (shape_of shape) (take (shape_of shape) cpu (Taking.Unreserve order place hand)) trees.old }
 {
     let said = entries::unreserve(trees, shape.size, places::place_tree(place), hand);
-    added_answer(
+    lending::given_answer(
         calls::get(cpu, places::after_place(shape, cpu, order, place)),
         said,
     )
@@ -85,14 +73,20 @@ pub fn fail(trees: &mut [u16], shape: Shape, cpu: u8, order: Order, place: Place
         places::place_tree(place),
         places::frames_of(order),
     );
-    added_answer(calls::get(cpu, Taking::Release { order, place }), said)
+    lending::given_answer(calls::get(cpu, Taking::Release { order, place }), said)
 }
 
-fn try_answer(shape: Shape, cpu: u8, order: Order, pass: Pass, said: Reserved) -> Answer
+fn try_answer(
+    shape: Shape,
+    cpu: u8,
+    order: Order,
+    pass: Pass,
+    said: Result<Option<u16>, Fault>,
+) -> Answer
     ensures { result ≡ try_answer (shape_of shape) cpu order pass said }
 {
     match said {
-        Reserved::Count(hand) => calls::get(
+        Ok(Some(hand)) => calls::get(
             cpu,
             Taking::Write {
                 order,
@@ -100,9 +94,8 @@ fn try_answer(shape: Shape, cpu: u8, order: Order, pass: Pass, said: Reserved) -
                 hand,
             },
         ),
-        Reserved::Passed => calls::get(cpu, places::after_pass(shape, cpu, order, pass)),
-        Reserved::Damaged => Answer::Damaged,
-        Reserved::NoTree => Answer::BadRecord,
+        Ok(None) => calls::get(cpu, places::after_pass(shape, cpu, order, pass)),
+        Err(fault) => Answer::from(fault),
     }
 }
 
@@ -120,12 +113,12 @@ fn steal_count_answer(
     order: Order,
     from: u8,
     tree: Tree,
-    said: Counted,
+    said: Result<u16, Fault>,
 ) -> Answer
     ensures { result ≡ steal_count_answer (shape_of shape) cpu order from tree said }
 {
     match said {
-        Counted::Count(hand) => {
+        Ok(hand) => {
             let found = Found::Steal { from, tree };
             if hand < places::frames_of(order) {
                 return calls::get(
@@ -139,8 +132,7 @@ fn steal_count_answer(
             }
             calls::get(cpu, Taking::Write { order, found, hand })
         }
-        Counted::Damaged => Answer::Damaged,
-        Counted::NoTree => Answer::BadRecord,
+        Err(fault) => Answer::from(fault),
     }
 }
 
@@ -165,10 +157,10 @@ pub fn to_tree(trees: &mut [u16], shape: Shape, cpu: u8, block: Block) -> Answer
     ensures { outcome result trees.new ≡ ranged (shape_of shape) block (in_trees (shape_of shape) (give (shape_of shape) cpu (Giving.ToTree block))) trees.old }
 {
     match places::block_at(shape, block) {
-        BlockAt::Nowhere => Answer::BadRecord,
-        BlockAt::At { tree, child: _ } => {
-            let said = entries::add_count(trees, shape.size, tree, places::block_frames(block));
-            added_answer(Answer::Done(places::first_of(block)), said)
+        None => Answer::BadRecord,
+        Some(at) => {
+            let said = entries::add_count(trees, shape.size, at.tree, places::block_frames(block));
+            lending::given_answer(Answer::Done(places::first_of(block)), said)
         }
     }
 }

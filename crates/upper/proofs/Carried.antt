@@ -2,6 +2,7 @@
 use mathlib.Core.Path.{◌≡◌, refl, sym, ap, ◌∙◌}
 use mathlib.Core.Bool.{Bool, true, false}
 use Prim.Native.Nat.{ℕ, ◌+◌, ◌*◌, ◌≤◌, ◌<◌}
+use Rattle.std.specs.Prelude.{Option, Some, None}
 use lib.Dec.{leb}
 use lib.ListN.{length, get_or, set}
 use borrow.Author.Tests.{lt-ltb, le-leb}
@@ -61,12 +62,12 @@ module _ (g : Shape) (z : Zone) where
   unfolding in_cpus on_cpu carried by_cpu stored
   cpu_carried j a f h = ap with_cpus (sym (within_in Answer.BadRecord j z.cpus h refl)) ∙ go (cpu_entry_at g z j)
     where
-      go : (e : CpuEntry)
+      go : (e : Option CpuEntry)
           → with_cpus (by_cpu e (outcome Answer.Damaged z.cpus) (cpu_turned g Answer.Damaged j (turn a) z.cpus) (λ t s k. cpu_turned g Answer.Damaged j (turn (f t s k)) z.cpus))
           ≡ done z (by_cpu e (refuse Answer.Damaged) (to_cpu g j a) (λ t s k. to_cpu g j (f t s k)))
-      go CpuEntry.Damaged = refl
-      go CpuEntry.Absent = cpu_made j a
-      go (CpuEntry.Holds t s k) = cpu_made j (f t s k)
+      go None = refl
+      go (Some CpuEntry.Absent) = cpu_made j a
+      go (Some (CpuEntry.Holds t s k)) = cpu_made j (f t s k)
 
   -- ---- trees
 
@@ -84,10 +85,10 @@ module _ (g : Shape) (z : Zone) where
   unfolding in_trees on_tree carried by_tree stored
   tree_carried t f h = ap with_trees (sym (within_in Answer.BadRecord t.0 z.trees h refl)) ∙ go (tree_entry_at g z t)
     where
-      go : (e : TreeEntry)
+      go : (e : Option TreeEntry)
           → with_trees (by_tree e (outcome Answer.Damaged z.trees) (λ r k. tree_turned g Answer.Damaged t (turn (f r k)) z.trees)) ≡ done z (by_tree e (refuse Answer.Damaged) (λ r k. to_tree g t (f r k)))
-      go TreeEntry.Damaged = refl
-      go (TreeEntry.Counts r k) = tree_made t (f r k)
+      go None = refl
+      go (Some e) = tree_made t (f e.reserved e.count)
 
   -- ---- children and words, in a tree's part
 

@@ -3,6 +3,7 @@ use mathlib.Core.Path.{◌≡◌, refl, sym, ap, ◌∙◌}
 use mathlib.Core.Bool.{Bool, true, false, not}
 use mathlib.Core.List.{List, [], ◌∷◌}
 use Prim.Native.Nat.{ℕ, ◌≤◌, ◌<◌}
+use Rattle.std.specs.Prelude.{Ok, Err}
 use native.Mathlib.Omega.{arith}
 use Rattle.laws.specs.Tests.{Check, ◌below◌, passes, Passes}
 use Rattle.laws.proofs.Tests.{true_false, all_passed, passes_of, fails_of}
@@ -15,7 +16,7 @@ use Rattle.rules.specs.Step.{act, step}
 use Rattle.rules.proofs.Guards.{stores}
 use Rattle.rules.proofs.Ways.{allowed}
 use Rattle.places.specs.Shapes as Shapes
-use Rattle.upper.specs.Types.{Record, Answer, Shape, Checked}
+use Rattle.upper.specs.Types.{Record, Answer, Shape}
 use Rattle.calls.specs.Results.{zone, Result, result_of, done}
 use Rattle.calls.proofs.Opened.{stores_nothing, stands, passed_by, checked_in, checked_refused, checked_open}
 
@@ -46,11 +47,11 @@ module _ (h w c t p : List ℕ) (r : Record) where
   abbrev z : Zone
   z = zone h w c t p
 
-  pub step_refused : {a : Answer} → checked_in h w c t p ≡ Checked.Refused a → result_of a z ≡ done z (step z r)
+  pub step_refused : {a : Answer} → checked_in h w c t p ≡ Err a → result_of a z ≡ done z (step z r)
   unfolding step
   step_refused e = stores_nothing z (checked_refused h w c t p e (unless (step_range (shape_of z) r) Answer.BadRecord ∷ []) (carried (shape_of z) z (act (shape_of z) r)))
 
-  module _ {s : Shape} (e : checked_in h w c t p ≡ Checked.Zone s) {x : Record} (q : r ≡ x) where
+  module _ {s : Shape} (e : checked_in h w c t p ≡ Ok s) {x : Record} (q : r ≡ x) where
     abbrev g : Rules
     g = Shapes.shape_of s
 

@@ -7,4 +7,3 @@ pub use Rattle.rules.specs.declared.CpuEntry.{CpuEntry}
 pub use Rattle.rules.specs.declared.TreeEntry.{TreeEntry}
 pub use Rattle.rules.specs.declared.Answer.{Answer}
 pub use Rattle.places.specs.declared.Shape.{Shape}
-pub use Rattle.calls.specs.declared.Checked.{Checked}

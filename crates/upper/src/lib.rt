@@ -11,7 +11,6 @@ ghost use Rattle.rules.specs.Step.{step};
 ghost use Rattle.places.specs.Shapes.{shape_of};
 ghost use Rattle.calls.specs.Results.{zone, result_of, done, Fits};
 
-use calls::Checked;
 use places::Shape;
 use rules::{Answer, Block, Giving, Order, Record, Taking};
 
@@ -123,8 +122,8 @@ pub fn step(
     ensures { result_of result (zone header.now words.new children.new trees.new cpus.new) ≡ done (zone header.now words.old children.old trees.old cpus.old) (step (zone header.now words.old children.old trees.old cpus.old) rec) }
 {
     match calls::check(header, words.len(), children.len(), trees.len(), cpus.len()) {
-        Checked::Refused(answer) => answer,
-        Checked::Zone(shape) => match rec {
+        Err(answer) => answer,
+        Ok(shape) => match rec {
             Record::Finished => Answer::BadRecord,
             Record::Get { cpu, stage } => {
                 if shape.cpus <= cpu {

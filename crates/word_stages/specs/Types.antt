@@ -3,9 +3,7 @@ pub use Rattle.rules.specs.declared.Frame.{Frame}
 pub use Rattle.rules.specs.declared.Tree.{Tree}
 pub use Rattle.rules.specs.declared.Run.{Run}
 pub use Rattle.rules.specs.declared.Block.{Block}
-pub use Rattle.rules.specs.declared.Bit.{Bit}
+pub use Rattle.rules.specs.declared.Fault.{Fault}
 pub use Rattle.rules.specs.declared.Place.{Place}
 pub use Rattle.rules.specs.declared.Taking.{Taking}
 pub use Rattle.rules.specs.declared.Answer.{Answer}
-pub use Rattle.lower.specs.declared.Taken.{Taken}
-pub use Rattle.lower.specs.declared.Given.{Given}

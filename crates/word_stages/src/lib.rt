@@ -2,19 +2,19 @@
 // A number that the table has not is answered 11.
 #![tactic(auto)]
 
-ghost use Rattle.std.specs.Prelude.{◌≡◌};
+ghost use Rattle.std.specs.Prelude.{◌≡◌, Err};
+ghost use Rattle.std.specs.Fn.{FnOnceReturnsAtMut};
 ghost use Rattle.laws.specs.Tables.{outcome};
 ghost use Rattle.rules.specs.Blocks.{run_size, frame_at};
 ghost use Rattle.rules.specs.Take.{take};
 ghost use Rattle.rules.specs.Give.{give};
 ghost use Rattle.lower.specs.Steps.{take_run_in, clear_run_in};
 ghost use Rattle.places.specs.Shapes.{shape_of, ranged};
-ghost use Rattle.word_stages.specs.Tables.{lent_words, in_words, eighth};
+ghost use Rattle.word_stages.specs.Tables.{lent_words, LentTo, in_words, eighth};
 ghost use Rattle.word_stages.specs.Answers.{word_answer};
 
-use lower::{Given, Taken};
-use places::{BlockAt, Shape};
-use rules::{Answer, Bit, Block, Frame, Giving, Place, Run, Taking, Tree};
+use places::Shape;
+use rules::{Answer, Block, Fault, Frame, Giving, Place, Run, Taking, Tree};
 
 const CHILD_FRAMES: u64 = 512;
 
@@ -28,15 +28,40 @@ const TREE_CHILDREN: usize = 32;
 
 // ---- a tree's part, lent
 
-pub fn take_run(words: &mut [u64], shape: Shape, tree: Tree, child: u8, word: u8, run: Run) -> Taken
-    ensures { outcome result words.new ≡ lent_words (shape_of shape) tree Taken.NoChild (λ l. take_run_in (run_size run) l child word) words.old }
+// The words of a tree's children, lent to f. Refuses a table that has them not.
+fn lent<R, F: FnOnce(&mut [u64]) -> Result<R, Fault>>(
+    words: &mut [u64],
+    shape: Shape,
+    tree: Tree,
+    f: F,
+) -> Result<R, Fault>
+    requires { F.IsAlwaysCallable f }
+    ensures { LentTo (shape_of shape) tree (Err Fault.NoChild) (FnOnceReturnsAtMut F.FnOnce f) words.old (outcome result words.new) }
 {
     let first = CHILD_WORDS * (tree.0 as usize * TREE_CHILDREN);
     let end = first + CHILD_WORDS * entries::children_of(shape.size, tree) as usize;
     if words.len() < end {
-        return Taken::NoChild;
+        return Err(Fault::NoChild);
     }
-    lower::take_run(&mut words[first..end], child as usize, word as usize, run)
+    f(&mut words[first..end])
+}
+
+pub fn take_run(
+    words: &mut [u64],
+    shape: Shape,
+    tree: Tree,
+    child: u8,
+    word: u8,
+    run: Run,
+) -> Result<Option<u8>, Fault>
+    ensures { outcome result words.new ≡ lent_words (shape_of shape) tree (Err Fault.NoChild) (λ l. take_run_in (run_size run) l child word) words.old }
+{
+    lent(
+        words,
+        shape,
+        tree,
+        |part| lower::take_run(part, child as usize, word as usize, run),
+    )
 }
 
 pub fn clear_run(
@@ -47,15 +72,15 @@ pub fn clear_run(
     word: usize,
     bit: u32,
     run: Run,
-) -> Given
-    ensures { outcome result words.new ≡ lent_words (shape_of shape) tree Given.NoChild (λ l. clear_run_in (run_size run) l child word bit) words.old }
+) -> Result<(), Fault>
+    ensures { outcome result words.new ≡ lent_words (shape_of shape) tree (Err Fault.NoChild) (λ l. clear_run_in (run_size run) l child word bit) words.old }
 {
-    let first = CHILD_WORDS * (tree.0 as usize * TREE_CHILDREN);
-    let end = first + CHILD_WORDS * entries::children_of(shape.size, tree) as usize;
-    if words.len() < end {
-        return Given::NoChild;
-    }
-    lower::clear_run(&mut words[first..end], child as usize, word, bit, run)
+    lent(
+        words,
+        shape,
+        tree,
+        |part| lower::clear_run(part, child as usize, word, bit, run),
+    )
 }
 
 // ---- answers
@@ -75,45 +100,38 @@ fn word_answer(
     start: u8,
     child: u8,
     word: u8,
-    said: Taken,
+    said: Result<Option<u8>, Fault>,
 ) -> Answer
     ensures { result ≡ word_answer (shape_of shape) cpu run place start child word said }
 {
     match said {
-        Taken::Word(found) => match found {
-            Bit::At(bit) => calls::get(
-                cpu,
-                Taking::Last(Block::Run {
-                    run,
-                    first: frame_at(shape, places::place_tree(place), child, word, bit),
-                }),
-            ),
-            Bit::Full => {
-                if word < LAST_WORD {
-                    return calls::get(
-                        cpu,
-                        Taking::Word {
-                            run,
-                            place,
-                            start,
-                            child,
-                            word: word + 1,
-                        },
-                    );
-                }
-                calls::get(
-                    cpu,
-                    Taking::GiveBack {
-                        run,
-                        place,
-                        start,
-                        child,
-                    },
-                )
-            }
-        },
-        Taken::NoChild => Answer::BadRecord,
-        Taken::NoWord => Answer::BadRecord,
+        Ok(Some(bit)) => calls::get(
+            cpu,
+            Taking::Last(Block::Run {
+                run,
+                first: frame_at(shape, places::place_tree(place), child, word, bit),
+            }),
+        ),
+        Ok(None) if word < LAST_WORD => calls::get(
+            cpu,
+            Taking::Word {
+                run,
+                place,
+                start,
+                child,
+                word: word + 1,
+            },
+        ),
+        Ok(None) => calls::get(
+            cpu,
+            Taking::GiveBack {
+                run,
+                place,
+                start,
+                child,
+            },
+        ),
+        Err(fault) => Answer::from(fault),
     }
 }
 
@@ -143,11 +161,11 @@ pub fn clear(words: &mut [u64], shape: Shape, cpu: u8, run: Run, first: Frame) -
     ensures { outcome result words.new ≡ ranged (shape_of shape) (Block.Run run first) (in_words (shape_of shape) (give (shape_of shape) cpu (Giving.Clear (Block.Run run first)))) words.old }
 {
     match places::block_at(shape, Block::Run { run, first }) {
-        BlockAt::Nowhere => Answer::BadRecord,
-        BlockAt::At { tree, child } => {
+        None => Answer::BadRecord,
+        Some(at) => {
             let word = (first.0 % CHILD_FRAMES / WORD_BITS) as usize;
             let bit = (first.0 % WORD_BITS) as u32;
-            let said = clear_run(words, shape, tree, child, word, bit, run);
+            let said = clear_run(words, shape, at.tree, at.child, word, bit, run);
             lending::given_answer(calls::put(cpu, Giving::Raise { run, first }), said)
         }
     }

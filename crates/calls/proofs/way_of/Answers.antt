@@ -2,10 +2,10 @@ use mathlib.Core.Path.{sym, ap, ◌∙◌}
 use Rattle.calls.specs.Results.{way_by}
 use Rattle.calls.proofs.way_of.Goals as goal
 
-pub returns-in-Ends : goal.returns-in-Ends
+pub returns-in-Some : goal.returns-in-Some
 unfolding way_by
-returns-in-Ends c = sym (ap (way_by _ _) (sym c.next_of.ensures ∙ c.in-Ends.is))
+returns-in-Some c = sym (ap (way_by _ _) (sym c.next_of.ensures ∙ c.in-Some.is))
 
-pub returns-in-GoesOn : goal.returns-in-GoesOn
+pub returns-in-None : goal.returns-in-None
 unfolding way_by
-returns-in-GoesOn c = sym (ap (way_by _ _) (sym c.next_of.ensures ∙ c.in-GoesOn.is))
+returns-in-None c = sym (ap (way_by _ _) (sym c.next_of.ensures ∙ c.in-None.is))

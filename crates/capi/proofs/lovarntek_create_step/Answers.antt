@@ -3,7 +3,7 @@ use Rattle.capi.proofs.Calls.{made_not, made_so, lent_step}
 use Rattle.capi.proofs.lovarntek_create_step.Goals as goal
 
 pub returns-then-rec-ne-RECORD : goal.returns-then-rec-ne-RECORD
-returns-then-rec-ne-RECORD c = made_not _ _ _ _ c.if-rec-ne-RECORD.true c.no_create_record.ensures c.told.ensures
+returns-then-rec-ne-RECORD c = made_not _ _ _ _ c.if-rec-ne-RECORD.true c.no_create_record.ensures c.from.ensures
 
 pub returns : goal.returns
-returns c = made_so _ _ _ _ c.if-rec-ne-RECORD.false (lent_step (create_step _) _ c.decode-given.ensures c.create_step-answer.ensures) c.hand_back.ensures c.told-2.ensures
+returns c = made_so _ _ _ _ c.if-rec-ne-RECORD.false (lent_step (create_step _) _ c.decode-given.ensures c.create_step-answer.ensures) c.hand_back.ensures c.from-2.ensures

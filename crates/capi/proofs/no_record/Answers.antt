@@ -1,14 +1,13 @@
+use mathlib.Core.Path.{ap, ◌∙◌}
+use Rattle.std.specs.Prelude.{Ok}
 use Rattle.capi.proofs.Calls.{no_record_lem}
 use Rattle.capi.proofs.no_record.Goals as goal
 
-pub returns-in-NoHeader : goal.returns-in-NoHeader
-returns-in-NoHeader c = no_record_lem _ _ c.zone_says.ensures c.in-NoHeader.is
+pub returns-in-Err : goal.returns-in-Err
+returns-in-Err c = no_record_lem _ _ c.zone_says.ensures c.in-Err.is
 
-pub returns-in-NotAZone : goal.returns-in-NotAZone
-returns-in-NotAZone c = no_record_lem _ _ c.zone_says.ensures c.in-NotAZone.is
+pub returns-in-Ok-Clean : goal.returns-in-Ok-Clean
+returns-in-Ok-Clean c = no_record_lem _ _ c.zone_says.ensures (c.in-Ok-Clean.is ∙ ap Ok c.in-Ok-Clean.field-0-is)
 
-pub returns-in-Clean : goal.returns-in-Clean
-returns-in-Clean c = no_record_lem _ _ c.zone_says.ensures c.in-Clean.is
-
-pub returns-in-Running : goal.returns-in-Running
-returns-in-Running c = no_record_lem _ _ c.zone_says.ensures c.in-Running.is
+pub returns-in-Ok-Running : goal.returns-in-Ok-Running
+returns-in-Ok-Running c = no_record_lem _ _ c.zone_says.ensures (c.in-Ok-Running.is ∙ ap Ok c.in-Ok-Running.field-0-is)

@@ -3,7 +3,7 @@ use Rattle.rules.specs.Lower.{take_huge}
 use Rattle.rules.specs.Plan.{takes}
 use Rattle.child_stages.specs.Tables.{in_children}
 use Rattle.lending.proofs.Lending.{made_past}
-use Rattle.child_stages.proofs.Rules.{kids_same, child_fits, claimed_made}
+use Rattle.child_stages.proofs.Rules.{kids_same, child_fits, nine_same, claimed_made}
 use Rattle.child_stages.proofs.child_nine.Goals as goal
 
 pub returns-then-children_of-child : goal.returns-then-children_of-child
@@ -15,4 +15,4 @@ next_child-passed-requires c = child_fits c.args.shape _ c.children_of.ensures c
 
 pub returns : goal.returns
 unfolding take in_children search_child
-returns c = claimed_made _ _ _ _ take_huge _ _ (takes _) (rw c.place_tree-tree.ensures at c.take_huge-said.ensures) (rw (c.get.ensures, c.next_child-passed.ensures, c.place_tree-tree.ensures) at c.claimed_answer.ensures)
+returns c = claimed_made _ _ _ _ take_huge _ _ (takes _) (nine_same _ _ (takes _)) (rw c.place_tree-tree.ensures at c.take_huge-said.ensures) (rw (c.get.ensures, c.next_child-passed.ensures, c.place_tree-tree.ensures) at c.claimed_answer.ensures)

@@ -3,7 +3,7 @@ use Rattle.rules.specs.Lower.{claim}
 use Rattle.rules.specs.Plan.{plain}
 use Rattle.child_stages.specs.Tables.{in_children}
 use Rattle.lending.proofs.Lending.{made_past}
-use Rattle.child_stages.proofs.Rules.{kids_same, child_fits, claimed_made}
+use Rattle.child_stages.proofs.Rules.{kids_same, child_fits, claim_same, claimed_made}
 use Rattle.rules.specs.Blocks.{run_size}
 use Rattle.child_stages.proofs.child_run.Goals as goal
 
@@ -16,4 +16,4 @@ next_child-passed-requires c = child_fits c.args.shape _ c.children_of.ensures c
 
 pub returns : goal.returns
 unfolding take in_children search_child
-returns c = claimed_made _ _ _ _ (claim (run_size c.args.run)) _ _ plain (rw (c.place_tree-tree.ensures, c.frames_of.ensures) at c.claim-said.ensures) (rw (c.get.ensures, c.next_child-passed.ensures) at c.claimed_answer.ensures)
+returns c = claimed_made _ _ _ _ (claim (run_size c.args.run)) _ _ plain (claim_same _ _ plain _) (rw (c.place_tree-tree.ensures, c.frames_of.ensures) at c.claim-said.ensures) (rw (c.get.ensures, c.next_child-passed.ensures) at c.claimed_answer.ensures)

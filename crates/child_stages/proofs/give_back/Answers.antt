@@ -4,6 +4,7 @@ use Rattle.rules.specs.Plan.{plain}
 use Rattle.child_stages.specs.Tables.{in_children}
 use Rattle.lending.proofs.Lending.{made_past}
 use Rattle.child_stages.proofs.Rules.{kids_same, child_fits, given_made}
+use Rattle.lending.proofs.Lending.{count_same}
 use Rattle.rules.specs.Blocks.{run_size}
 use Rattle.child_stages.proofs.give_back.Goals as goal
 
@@ -16,4 +17,4 @@ next_child-next-requires c = child_fits c.args.shape _ c.children_of.ensures c.i
 
 pub returns : goal.returns
 unfolding take in_children
-returns c = given_made _ _ _ _ (give_count (run_size c.args.run)) _ plain (rw (c.place_tree-tree.ensures, c.frames_of.ensures) at c.give_count-said.ensures) (rw c.next_child-next.ensures at c.given_answer.ensures)
+returns c = given_made _ _ _ _ (give_count (run_size c.args.run)) _ plain (count_same _ plain _) (rw (c.place_tree-tree.ensures, c.frames_of.ensures) at c.give_count-said.ensures) (rw c.next_child-next.ensures at c.given_answer.ensures)

@@ -1,19 +1,19 @@
-use mathlib.Core.Path.{refl, sym, ◌∙◌}
-use Rattle.entries.proofs.Turns.{within_out}
-use Rattle.cpu_entries.proofs.Cpus.{absent_packed, kept, stored, cpu_damaged, cpu_absent, cpu_other, cpu_same}
+use Rattle.std.proofs.Common.{rules}
+use mathlib.Core.Path.{refl}
+use Rattle.cpu_entries.proofs.Cpus.{absent_packed, stored, held_read, held_refused, held_missed, held_turned}
 use Rattle.cpu_entries.proofs.release.Goals as goal
 
-pub returns-then-cpus-cpu : goal.returns-then-cpus-cpu
-returns-then-cpus-cpu c = within_out _ _ _ _ c.if-cpus-cpu.true
+pub returns-in_err-count : goal.returns-in_err-count
+returns-in_err-count c = held_refused _ _ _ _ _ _ c.from_residual.ensures.1 c.in_err-count.ensures
 
-pub returns-then-held-tree : goal.returns-then-held-tree
-returns-then-held-tree c = cpu_other _ _ _ _ _ _ _ _ c.if-cpus-cpu.false (sym c.cpu_says.ensures ∙ c.in-Holds.is) c.if-held-tree.true
+pub returns-in_default : goal.returns-in_default
+returns-in_default c = held_missed _ _ _ _ _ _ c.in_ok-count.ensures c.in_default.is
 
-pub returns-in-Damaged : goal.returns-in-Damaged
-returns-in-Damaged c = cpu_damaged _ _ _ _ _ _ _ c.if-cpus-cpu.false (sym c.cpu_says.ensures ∙ c.in-Damaged.is)
+pub offset_bounds-cpus-cpu : goal.offset_bounds-cpus-cpu
+offset_bounds-cpus-cpu c = let h = (held_read _ _ _ _ c.in_ok-count.ensures c.in-Some.is).there in search rules
 
-pub returns-in-Absent : goal.returns-in-Absent
-returns-in-Absent c = cpu_absent _ _ _ _ _ _ _ c.if-cpus-cpu.false (sym c.cpu_says.ensures ∙ c.in-Absent.is) (kept refl)
+pub bounds-cpus-cpu : goal.bounds-cpus-cpu
+bounds-cpus-cpu c = (held_read _ _ _ _ c.in_ok-count.ensures c.in-Some.is).there
 
-pub returns-else-held-tree : goal.returns-else-held-tree
-returns-else-held-tree c = cpu_same _ _ _ _ _ _ _ _ c.if-cpus-cpu.false (sym c.cpu_says.ensures ∙ c.in-Holds.is) c.if-held-tree.false (λ _. stored refl absent_packed)
+pub returns : goal.returns
+returns c = held_turned _ _ _ _ _ _ (held_read _ _ _ _ c.in_ok-count.ensures c.in-Some.is) (stored refl absent_packed)

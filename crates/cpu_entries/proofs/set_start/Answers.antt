@@ -1,26 +1,26 @@
-use mathlib.Core.Path.{refl, sym, ◌∙◌}
+use Rattle.std.proofs.Common.{rules}
+use mathlib.Core.Path.{refl}
 use native.Mathlib.Omega.{arith}
-use Rattle.entries.proofs.Turns.{within_out}
-use Rattle.cpu_entries.proofs.Cpus.{same_tree, start_laid, fields_fit, holds_packed, not_laid, kept, stored, broken, cpu_damaged, cpu_absent, cpu_other, cpu_same}
+use Rattle.cpu_entries.proofs.Cpus.{start_laid, fields_fit, holds_packed, not_laid, stored, broken, held_read, held_refused, held_missed, held_turned}
 use Rattle.cpu_entries.proofs.set_start.Goals as goal
 
-pub returns-then-cpus-cpu : goal.returns-then-cpus-cpu
-returns-then-cpus-cpu c = within_out _ _ _ _ c.if-cpus-cpu.true
+pub returns-in_err-count : goal.returns-in_err-count
+returns-in_err-count c = held_refused _ _ _ _ _ _ c.from_residual.ensures.1 c.in_err-count.ensures
 
-pub returns-then-held-tree : goal.returns-then-held-tree
-returns-then-held-tree c = cpu_other _ _ _ _ _ _ _ _ c.if-cpus-cpu.false (sym c.cpu_says.ensures ∙ c.in-Holds.is) c.if-held-tree.true
+pub returns-in_default : goal.returns-in_default
+returns-in_default c = held_missed _ _ _ _ _ _ c.in_ok-count.ensures c.in_default.is
 
 pub returns-then-children_of-child : goal.returns-then-children_of-child
-returns-then-children_of-child c = cpu_same _ _ _ _ _ _ _ _ c.if-cpus-cpu.false (sym c.cpu_says.ensures ∙ c.in-Holds.is) c.if-held-tree.false (λ _. broken refl (not_laid _ _ _ _ (λ p. omega (arith, c.if-children_of-child.true, c.children_of.ensures, p.1.0))))
+returns-then-children_of-child c = held_turned _ _ _ _ _ _ (held_read _ _ _ _ c.in_ok-count.ensures c.in-Some.is) (broken refl (not_laid _ _ _ _ (λ p. omega (arith, c.if-children_of-child.true, c.children_of.ensures, p.1.0))))
 
 pub join_cpu-requires : goal.join_cpu-requires
-join_cpu-requires c = fields_fit c.args.size _ _ _ (omega arith) (start_laid _ _ (same_tree _ _ (sym c.cpu_says.ensures ∙ c.in-Holds.is) c.if-held-tree.false) _ (omega (arith, c.if-children_of-child.false, c.children_of.ensures)))
+join_cpu-requires c = fields_fit c.args.size _ _ _ (omega arith) (start_laid _ _ (held_read _ _ _ _ c.in_ok-count.ensures c.in-Some.is).told _ (omega (arith, c.if-children_of-child.false, c.children_of.ensures)))
 
-pub returns-in-Damaged : goal.returns-in-Damaged
-returns-in-Damaged c = cpu_damaged _ _ _ _ _ _ _ c.if-cpus-cpu.false (sym c.cpu_says.ensures ∙ c.in-Damaged.is)
+pub offset_bounds-cpus-cpu : goal.offset_bounds-cpus-cpu
+offset_bounds-cpus-cpu c = let h = (held_read _ _ _ _ c.in_ok-count.ensures c.in-Some.is).there in search rules
 
-pub returns-in-Absent : goal.returns-in-Absent
-returns-in-Absent c = cpu_absent _ _ _ _ _ _ _ c.if-cpus-cpu.false (sym c.cpu_says.ensures ∙ c.in-Absent.is) (kept refl)
+pub bounds-cpus-cpu : goal.bounds-cpus-cpu
+bounds-cpus-cpu c = (held_read _ _ _ _ c.in_ok-count.ensures c.in-Some.is).there
 
-pub returns-else-children_of-child : goal.returns-else-children_of-child
-returns-else-children_of-child c = cpu_same _ _ _ _ _ _ _ _ c.if-cpus-cpu.false (sym c.cpu_says.ensures ∙ c.in-Holds.is) c.if-held-tree.false (λ e. stored refl (holds_packed (start_laid _ _ e _ (omega (arith, c.if-children_of-child.false, c.children_of.ensures))) c.join_cpu.ensures))
+pub returns : goal.returns
+returns c = let r = (held_read _ _ _ _ c.in_ok-count.ensures c.in-Some.is) in held_turned _ _ _ _ _ _ r (stored refl (holds_packed (start_laid _ _ r.told _ (omega (arith, c.if-children_of-child.false, c.children_of.ensures))) c.join_cpu.ensures))

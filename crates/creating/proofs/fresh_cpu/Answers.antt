@@ -6,7 +6,7 @@ pub returns-then-cpu-shape : goal.returns-then-cpu-shape
 returns-then-cpu-shape c = cpu_next _ _ _ _ (omega (arith, c.requires)) c.store_absent.ensures c.if-cpu-shape.true c.creating.ensures
 
 pub returns-else-cpu-shape : goal.returns-else-cpu-shape
-returns-else-cpu-shape c = cpu_last _ _ _ _ (omega (arith, c.requires)) c.store_absent.ensures c.if-cpu-shape.false c.creating-in-Stored.ensures
+returns-else-cpu-shape c = cpu_last _ _ _ _ (omega (arith, c.requires)) c.store_absent.ensures c.if-cpu-shape.false c.creating-in-Ok.ensures
 
-pub returns-in-NoEntry : goal.returns-in-NoEntry
-returns-in-NoEntry c = cpu_none _ _ _ _ (omega (arith, c.requires)) c.store_absent.ensures c.in-NoEntry.is
+pub returns-in-Err : goal.returns-in-Err
+returns-in-Err c = cpu_none _ _ _ _ (omega (arith, c.requires)) c.store_absent.ensures c.in-Err.is

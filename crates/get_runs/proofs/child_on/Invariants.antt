@@ -1,5 +1,5 @@
 use mathlib.Core.Path.{◌≡◌}
-use Prim.Native.Nat.{◌-◌}
+use Prim.Native.Nat.{◌-◌, ◌≤◌}
 use lib.ListN.{length}
 use Rattle.laws.specs.Tests.{Passes}
 use Rattle.rules.specs.Ranges.{taking_in}
@@ -10,7 +10,4 @@ use Rattle.get_runs.specs.Types.{Place, Taking, Record, Answer}
 use Rattle.get_runs.proofs.child_on.Given as goal
 
 abbrev pub invariant-loop-steps : goal.invariant-loop-steps
-invariant-loop-steps l = (length l.words ≡ length l.initial.words) × (length l.children ≡ length l.initial.children) × Passes (taking_in (shape_of l.shape) l.cpu (Taking.Child l.order (Place.Own l.tree) l.start l.child)) × (follow step (l.fuel - l.steps) l.steps (Answer.UnderWay (Record.Get l.cpu (Taking.Child l.order (Place.Own l.tree) l.start l.child))) (zone l.header l.words l.children l.trees l.cpus) ≡ follow step (l.fuel - l.made) l.made (Answer.UnderWay (Record.Get l.cpu (Taking.Child l.order (Place.Own l.tree) l.start l.start))) (zone l.header l.initial.words l.initial.children l.trees l.cpus))
-
-abbrev pub decreases-loop-steps : goal.decreases-loop-steps
-decreases-loop-steps l = l.fuel - l.steps
+invariant-loop-steps l = (length l.words ≡ length l.initial.words) × (length l.children ≡ length l.initial.children) × Passes (taking_in (shape_of l.shape) l.cpu (Taking.Child l.order (Place.Own l.tree) l.start l.child)) × (l.fuel ≤ l.made → l.steps ≡ l.made) × (follow step (l.fuel - l.steps) l.steps (Answer.UnderWay (Record.Get l.cpu (Taking.Child l.order (Place.Own l.tree) l.start l.child))) (zone l.header l.words l.children l.trees l.cpus) ≡ follow step (l.fuel - l.made) l.made (Answer.UnderWay (Record.Get l.cpu (Taking.Child l.order (Place.Own l.tree) l.start l.start))) (zone l.header l.initial.words l.initial.children l.trees l.cpus))

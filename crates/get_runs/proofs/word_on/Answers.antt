@@ -1,5 +1,4 @@
 use mathlib.Core.Path.{refl, ◌∙◌}
-use native.Mathlib.Omega.{arith}
 use Rattle.laws.specs.Tests.{pick}
 use Rattle.calls.specs.Results.{went_to}
 use Rattle.upper.proofs.Runs.{still_open}
@@ -9,23 +8,20 @@ use Rattle.get_runs.proofs.word_on.Goals as goal
 
 pub loop-word-init : goal.loop-word-init
 unfolding pick
-loop-word-init c = (refl, search rules, refl)
+loop-word-init c = (refl, refl)
 
 pub returns-then-fuel-steps : goal.returns-then-fuel-steps
-returns-then-fuel-steps c = simp c.at_word.ensures (word_stays _ _ _ _ _ _ _ _ _ c.loop-word.invariant.2 c.loop-word-test.true)
+returns-then-fuel-steps c = simp c.at_word.ensures (word_stays _ _ _ _ _ _ _ _ _ c.loop-word.invariant.1 c.loop-word-test.true)
 
-pub returns-in-At : goal.returns-in-At
+pub returns-in-Ok-Some : goal.returns-in-Ok-Some
 unfolding went_to
-returns-in-At c = simp c.taken.ensures (word_found _ _ _ _ _ _ _ (still_open c.requires.0 c.loop-word.invariant.0 refl refl refl) c.requires.1 _ _ c.if-fuel-steps.false c.loop-word-test.true c.take_run.ensures _ c.in-Word.is c.in-At.is c.frame_at-first.ensures refl ∙ c.loop-word.invariant.2)
+returns-in-Ok-Some c = simp c.taken.ensures (word_found _ _ _ _ _ _ _ (still_open c.requires.0 c.loop-word.invariant.0 refl refl refl) c.requires.1 _ _ c.if-fuel-steps.false c.loop-word-test.true c.take_run.ensures _ c.in-Ok-Some.is c.in-Ok-Some.field-0-is c.frame_at-first.ensures refl ∙ c.loop-word.invariant.1)
 
-pub returns-in-NoChild : goal.returns-in-NoChild
-returns-in-NoChild c = simp c.at_word-in-NoChild.ensures (word_stands _ _ _ _ _ _ _ (still_open c.requires.0 c.loop-word.invariant.0 refl refl refl) c.requires.1 _ _ c.if-fuel-steps.false c.loop-word-test.true c.take_run.ensures c.in-NoChild.is (omega arith) ∙ c.loop-word.invariant.2)
-
-pub returns-in-NoWord : goal.returns-in-NoWord
-returns-in-NoWord c = simp c.at_word-in-NoWord.ensures (word_stands _ _ _ _ _ _ _ (still_open c.requires.0 c.loop-word.invariant.0 refl refl refl) c.requires.1 _ _ c.if-fuel-steps.false c.loop-word-test.true c.take_run.ensures c.in-NoWord.is (omega arith) ∙ c.loop-word.invariant.2)
+pub returns-in-Err : goal.returns-in-Err
+returns-in-Err c = simp c.at_word-in-Err.ensures (word_stands _ _ _ _ _ _ _ (still_open c.requires.0 c.loop-word.invariant.0 refl refl refl) c.requires.1 _ _ c.if-fuel-steps.false c.loop-word-test.true c.take_run.ensures c.in-Err.is ∙ c.loop-word.invariant.1)
 
 pub loop-word-preserved : goal.loop-word-preserved
-loop-word-preserved c = (search rules, search rules, word_next _ _ _ _ _ _ _ (still_open c.requires.0 c.loop-word.invariant.0 refl refl refl) c.requires.1 _ _ c.if-fuel-steps.false c.loop-word-test.true c.take_run.ensures c.in-Word.is c.in-Full.is ∙ c.loop-word.invariant.2)
+loop-word-preserved c = (search rules, word_next _ _ _ _ _ _ _ (still_open c.requires.0 c.loop-word.invariant.0 refl refl refl) c.requires.1 _ _ c.if-fuel-steps.false c.loop-word-test.true c.take_run.ensures c.in-Ok-None.is c.in-Ok-None.field-0-is ∙ c.loop-word.invariant.1)
 
 pub returns : goal.returns
-returns c = simp c.stands.ensures (words_done _ _ _ _ _ _ _ _ _ c.loop-word.invariant.2 c.loop-word-test.false)
+returns c = simp c.stands.ensures (words_done _ _ _ _ _ _ _ _ _ c.loop-word.invariant.1 c.loop-word-test.false)

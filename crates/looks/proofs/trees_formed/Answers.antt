@@ -1,8 +1,11 @@
-use mathlib.Core.Path.{◌∙◌}
+use mathlib.Core.Path.{refl, ◌∙◌}
 use native.Mathlib.Omega.{arith}
+use borrow.Author.Rules.{rules}
+use Rattle.rules.specs.Conversions.{tree}
 use Rattle.rules.specs.Open.{trees_formed}
+use Rattle.looks.specs.Entries.{tree_formed_in}
 use Rattle.looks.specs.Looks.{trees_formed_in}
-use Rattle.looks.proofs.Loops.{none_yet, one_more, one_fails, all_done, lacks, has}
+use Rattle.looks.proofs.Loops.{every_ran, lacks, has, every_same}
 use Rattle.looks.proofs.Entries.{all_trees, tree_formed_same}
 use Rattle.looks.proofs.trees_formed.Goals as goal
 
@@ -10,16 +13,8 @@ pub returns-then-trees-n : goal.returns-then-trees-n
 unfolding trees_formed_in
 returns-then-trees-n c = lacks (all_trees _ c.trees_of-n.ensures) _ c.if-trees-n.true
 
-pub loop-tree-init : goal.loop-tree-init
-loop-tree-init c = (omega arith, none_yet _)
-
-pub returns-then-not-tree_formed : goal.returns-then-not-tree_formed
-unfolding trees_formed_in trees_formed
-returns-then-not-tree_formed c = has (all_trees c.args.shape c.trees_of-n.ensures) c.if-trees-n.false (one_fails _ _ _ (omega (arith, all_trees c.args.shape c.trees_of-n.ensures)) (c.tree_formed.ensures ∙ tree_formed_same _ _ _ (omega arith)) c.if-not-tree_formed.true)
-
-pub loop-tree-preserved : goal.loop-tree-preserved
-loop-tree-preserved c = (omega arith, one_more _ _ c.loop-tree.invariant.1 (c.tree_formed.ensures ∙ tree_formed_same _ _ _ (omega arith)) c.if-not-tree_formed.false)
-
 pub returns : goal.returns
 unfolding trees_formed_in trees_formed
-returns c = has (all_trees c.args.shape c.trees_of-n.ensures) c.if-trees-n.false (all_done _ _ _ c.loop-tree.invariant.1 (omega (arith, all_trees c.args.shape c.trees_of-n.ensures)) (omega (arith, all_trees c.args.shape c.trees_of-n.ensures)))
+returns c =
+    let n = all_trees c.args.shape c.trees_of-n.ensures in
+    has n c.if-trees-n.false (every_ran _ (λ i. tree_formed_in c.args.shape (tree i) c.args.trees.now) c.all.ensures.ran refl (λ x b q k. search rules) ∙ every_same n (λ i l. tree_formed_same _ _ _ (omega arith)))

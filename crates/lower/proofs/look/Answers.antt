@@ -1,7 +1,8 @@
+use Rattle.std.specs.Prelude.{ok_or}
 use mathlib.Core.Path.{sym, ap, ◌∙◌}
 use borrow.Author.Tests.{lt-ltb, le-ltb}
 use Rattle.laws.proofs.Tests.{pick_yes, pick_no}
-use Rattle.lower.specs.Types.{Looked}
+use Rattle.lower.specs.Types.{Fault}
 use Rattle.lower.specs.Steps.{look_in}
 use Rattle.lower.proofs.look.Goals as goal
 
@@ -11,4 +12,4 @@ returns-then-children-child c = sym (pick_no _ _ _ (le-ltb _ _ c.if-children-chi
 
 pub returns : goal.returns
 unfolding look_in
-returns c = ap Looked.Entry c.says.ensures ∙ sym (pick_yes _ _ _ (lt-ltb _ _ c.if-children-child.false))
+returns c = c.ok_or.ensures.value ∙ ap (λ o. ok_or o Fault.Damaged) c.says.ensures ∙ sym (pick_yes _ _ _ (lt-ltb _ _ c.if-children-child.false))

@@ -1,3 +1,4 @@
+use Rattle.std.specs.Prelude.{Option}
 use mathlib.Core.Path.{◌≡◌, ap, ◌∙◌}
 use Prim.Native.Nat.{ℕ}
 use native.Mathlib.Omega.{arith}
@@ -8,7 +9,7 @@ use Rattle.lower.proofs.Entries.{said_by, says_fields, says_counts, says_flagged
 use Rattle.lower.proofs.says.Goals as goal
 
 -- what is shown of the split entry is shown of the entry
-whole : {v : ChildEntry} {f : Fields} (x : ℕ) → f ≡ fields_of x → v ≡ said_by f → v ≡ child_says x
+whole : {v : Option ChildEntry} {f : Fields} (x : ℕ) → f ≡ fields_of x → v ≡ said_by f → v ≡ child_says x
 whole x e p = p ∙ ap said_by e ∙ says_fields x
 
 pub returns-then-e-ne0 : goal.returns-then-e-ne0

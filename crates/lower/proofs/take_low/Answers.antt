@@ -1,3 +1,4 @@
+use native.Mathlib.Omega.{arith}
 use Rattle.lower.proofs.Leaf.{passed_start, passed_all, passed_found, passed_more}
 use Rattle.lower.proofs.take_low.Goals as goal
 
@@ -15,3 +16,8 @@ loop-bit-preserved c = passed_more _ _ c.ranges.word.fits c.size_of-size.ensures
 
 pub returns : goal.returns
 returns c = passed_all _ _ c.ranges.word.fits c.size_of-size.ensures.0 c.ones_of-ones.ensures c.loop-bit.invariant c.loop-bit-test.false
+
+pub returns-else-word-mask-eq0 : goal.returns-else-word-mask-eq0
+returns-else-word-mask-eq0 c =
+    let p = passed_more _ _ c.ranges.word.fits c.size_of-size.ensures.0 c.ones_of-ones.ensures c.loop-bit.invariant c.loop-bit-test.true c.if-word-mask-eq0.false in
+    passed_all _ _ c.ranges.word.fits c.size_of-size.ensures.0 c.ones_of-ones.ensures p (omega arith)

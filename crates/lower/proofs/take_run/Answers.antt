@@ -1,8 +1,8 @@
+use Rattle.std.specs.Prelude.{Ok}
 use mathlib.Core.Path.{sym, ap, ◌∙◌}
 use borrow.Author.Tests.{lt-ltb, le-ltb}
 use Rattle.laws.specs.Tables.{wrapped}
 use Rattle.laws.proofs.Tests.{pick_yes, pick_no}
-use Rattle.lower.specs.Types.{Taken}
 use Rattle.lower.specs.Steps.{take_run_in}
 use Rattle.lower.proofs.take_run.Goals as goal
 
@@ -16,4 +16,4 @@ returns-then-word-ge-CHILD_WORDS c = sym (pick_yes _ _ _ (lt-ltb _ _ c.if-words-
 
 pub returns : goal.returns
 unfolding take_run_in
-returns c = ap (wrapped Taken.Word) c.take_at.ensures ∙ sym (pick_yes _ _ _ (lt-ltb _ _ c.if-words-child.false) ∙ pick_yes _ _ _ (lt-ltb _ _ c.if-word-ge-CHILD_WORDS.false))
+returns c = ap (wrapped Ok) c.take_at.ensures ∙ sym (pick_yes _ _ _ (lt-ltb _ _ c.if-words-child.false) ∙ pick_yes _ _ _ (lt-ltb _ _ c.if-word-ge-CHILD_WORDS.false))

@@ -1,7 +1,7 @@
+use Rattle.std.specs.Prelude.{Ok}
 use mathlib.Core.Path.{sym, ap, ◌∙◌}
 use borrow.Author.Tests.{lt-ltb, le-ltb}
 use Rattle.laws.proofs.Tests.{pick_yes, pick_no}
-use Rattle.lower.specs.Types.{Zeros}
 use Rattle.lower.specs.Steps.{zeros_in}
 use Rattle.lower.proofs.zero_bits.Goals as goal
 
@@ -11,4 +11,4 @@ returns-then-words-child c = sym (pick_no _ _ _ (le-ltb _ _ c.if-words-child.tru
 
 pub returns : goal.returns
 unfolding zeros_in
-returns c = ap Zeros.Bits c.zeros_at.ensures ∙ sym (pick_yes _ _ _ (lt-ltb _ _ c.if-words-child.false))
+returns c = ap Ok c.zeros_at.ensures ∙ sym (pick_yes _ _ _ (lt-ltb _ _ c.if-words-child.false))

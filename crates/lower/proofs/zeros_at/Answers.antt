@@ -1,30 +1,21 @@
-use mathlib.Core.Path.{◌≡◌, ap, ◌∙◌}
-use Prim.Native.Nat.{◌+◌}
-use native.Mathlib.Omega.{arith}
-use Rattle.rules.specs.Numbers.{child_words}
-use Rattle.lower.proofs.Leaf.{zeros_to, zeros_none, zeros_more, zeros_all, zeros_bound}
+use mathlib.Core.Path.{◌≡◌, ◌∙◌}
+use Rattle.std.proofs.Common.{rules, arith, ◌*◌, ◌+◌, ◌^◌, ◌<◌, sum_by, slice_range}
+use Rattle.laws.specs.Words.{zeros}
+use Rattle.rules.proofs.Fields.{zero_bits_lem}
+use Rattle.lower.proofs.Sums.{field_zeros}
 use Rattle.lower.proofs.zeros_at.Goals as goal
 
-pub loop-word-init : goal.loop-word-init
-loop-word-init c = (omega arith, zeros_none _ _)
-
-pub overflow_add-zeros : goal.overflow_add-zeros
-overflow_add-zeros c =
-    let ws = c.args.words.now in
-    let child = c.args.child in
-    let word = c.loop-word.word in
-    omega (arith, zeros_more ws child word, zeros_bound ws child (word + 1))
-
-pub loop-word-preserved : goal.loop-word-preserved
-loop-word-preserved c =
-    let ws = c.args.words.now in
-    let child = c.args.child in
-    (omega arith, omega (arith, zeros_more ws child c.loop-word.word))
+pub sum-zeros-requires-clause-fits : goal.sum-zeros-requires-clause-fits
+sum-zeros-requires-clause-fits c =
+    let h : sum_by (zeros 64) (slice_range c.args.words.now (8 * c.args.child) (8 * (c.args.child + 1))) < 2 ^ 32 = omega (arith, field_zeros _ _ c.requires, zero_bits_lem c.args.words.now c.args.child) in
+    search rules
 
 pub overflow_cast-result : goal.overflow_cast-result
-overflow_cast-result c = omega (arith, zeros_bound c.args.words.now c.args.child c.loop-word.word)
+overflow_cast-result c =
+    let e : c.sum-zeros.result ≡ sum_by (zeros 64) (slice_range c.args.words.now (8 * c.args.child) (8 * (c.args.child + 1))) = search rules in
+    omega (arith, field_zeros _ _ c.requires, zero_bits_lem c.args.words.now c.args.child)
 
 pub returns : goal.returns
 returns c =
-    let e : c.loop-word.word ≡ child_words = omega arith in
-    c.loop-word.invariant.1 ∙ ap (zeros_to _ _) e ∙ zeros_all _ _
+    let e : c.sum-zeros.result ≡ sum_by (zeros 64) (slice_range c.args.words.now (8 * c.args.child) (8 * (c.args.child + 1))) = search rules in
+    e ∙ field_zeros _ _ c.requires

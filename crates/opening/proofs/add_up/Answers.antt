@@ -1,6 +1,6 @@
 use native.Mathlib.Omega.{arith}
 use Rattle.rules.specs.Numbers.{trees_of}
-use Rattle.opening.proofs.Stages.{part_damaged, tree_none, tree_sound, tree_next, tree_last}
+use Rattle.opening.proofs.Stages.{part_damaged, tree_none, tree_next, tree_last}
 use Rattle.opening.proofs.add_up.Goals as goal
 
 pub returns-then-not-part_formed : goal.returns-then-not-part_formed
@@ -14,10 +14,7 @@ pub returns-then-tree-trees_of : goal.returns-then-tree-trees_of
 returns-then-tree-trees_of c = tree_next _ _ _ _ c.requires c.part_formed.ensures c.if-not-part_formed.false _ c.child_count.ensures c.store_count.ensures c.trees_of.ensures c.if-tree-trees_of.true c.opening.ensures
 
 pub returns-else-tree-trees_of : goal.returns-else-tree-trees_of
-returns-else-tree-trees_of c = tree_last _ _ _ _ c.requires c.part_formed.ensures c.if-not-part_formed.false _ c.child_count.ensures c.store_count.ensures c.trees_of.ensures c.if-tree-trees_of.false c.opening-in-Added.ensures
+returns-else-tree-trees_of c = tree_last _ _ _ _ c.requires c.part_formed.ensures c.if-not-part_formed.false _ c.child_count.ensures c.store_count.ensures c.trees_of.ensures c.if-tree-trees_of.false c.opening-in-Ok.ensures
 
-pub returns-in-Damaged : goal.returns-in-Damaged
-returns-in-Damaged c = tree_sound _ _ _ _ c.requires c.part_formed.ensures c.if-not-part_formed.false _ c.child_count.ensures c.store_count.ensures c.in-Damaged.is
-
-pub returns-in-NoTree : goal.returns-in-NoTree
-returns-in-NoTree c = tree_none _ _ _ _ c.requires c.part_formed.ensures c.if-not-part_formed.false _ c.child_count.ensures c.store_count.ensures c.in-NoTree.is
+pub returns-in-Err : goal.returns-in-Err
+returns-in-Err c = tree_none _ _ _ _ c.requires c.part_formed.ensures c.if-not-part_formed.false _ c.child_count.ensures c.store_count.ensures c.in-Err.is

@@ -8,5 +8,5 @@ returns-then-cpu-shape c = cpu_next _ _ _ _ (omega (arith, c.requires)) c.store_
 pub returns-else-cpu-shape : goal.returns-else-cpu-shape
 returns-else-cpu-shape c = cpu_last _ _ _ _ (omega (arith, c.requires)) c.store_absent.ensures c.if-cpu-shape.false
 
-pub returns-in-NoEntry : goal.returns-in-NoEntry
-returns-in-NoEntry c = cpu_none _ _ _ _ (omega (arith, c.requires)) c.store_absent.ensures c.in-NoEntry.is
+pub returns-in-Err : goal.returns-in-Err
+returns-in-Err c = cpu_none _ _ _ _ (omega (arith, c.requires)) c.store_absent.ensures c.in-Err.is

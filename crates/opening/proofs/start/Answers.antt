@@ -2,8 +2,8 @@ use mathlib.Core.Path.{refl}
 use Rattle.opening.proofs.Steps.{started}
 use Rattle.opening.proofs.start.Goals as goal
 
-pub returns-in-Stored : goal.returns-in-Stored
-returns-in-Stored c = started _ _ _ c.store_running.ensures c.in-Stored.is c.opening.ensures
+pub returns-in-Ok : goal.returns-in-Ok
+returns-in-Ok c = started _ _ _ c.store_running.ensures c.in-Ok.is c.opening.ensures
 
-pub returns-in-NoEntry : goal.returns-in-NoEntry
-returns-in-NoEntry c = started _ _ _ c.store_running.ensures c.in-NoEntry.is refl
+pub returns-in-Err : goal.returns-in-Err
+returns-in-Err c = started _ _ _ c.store_running.ensures c.in-Err.is refl

@@ -14,5 +14,5 @@ nonzero_rem-result c = omega (arith, c.frames_of.ensures, run_some c.args.run)
 pub returns-then-frame_in : goal.returns-then-frame_in
 returns-then-frame_in c = then_tells (frame_in (shape_of c.args.shape) _) _ c.frame_in.ensures c.if-frame_in.true (ap (λ y. eqb (c.args.first.0 % y) 0) c.frames_of.ensures ∙ one_check _)
 
-pub returns : goal.returns
-returns c = then_fails (frame_in (shape_of c.args.shape) _) _ c.frame_in.ensures c.if-frame_in.false
+pub returns-else-frame_in : goal.returns-else-frame_in
+returns-else-frame_in c = then_fails (frame_in (shape_of c.args.shape) _) _ c.frame_in.ensures c.if-frame_in.false

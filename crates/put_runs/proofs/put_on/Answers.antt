@@ -9,13 +9,13 @@ unfolding went_to
 returns-then-fuel-eq0 c = refl
 
 pub returns-then-shape-cpu : goal.returns-then-shape-cpu
-returns-then-shape-cpu c = run_answers (search rules) (no_cpu (sym c.check.ensures ∙ c.in-Zone.is) c.if-shape-cpu.true) c.way_of-then-shape-cpu.ensures
+returns-then-shape-cpu c = run_answers (search rules) (no_cpu (sym c.check.ensures ∙ c.in-Ok.is) c.if-shape-cpu.true) c.way_of-then-shape-cpu.ensures
 
 pub block_on-at-requires : goal.block_on-at-requires
-block_on-at-requires c = record { checks = sym c.check.ensures ∙ c.in-Zone.is; cpu_is_in = c.if-shape-cpu.false }
+block_on-at-requires c = record { checks = sym c.check.ensures ∙ c.in-Ok.is; cpu_is_in = c.if-shape-cpu.false }
 
-pub returns-in-Refused : goal.returns-in-Refused
-returns-in-Refused c = run_answers (search rules) (refused (sym c.check.ensures ∙ c.in-Refused.is)) c.way_of.ensures
+pub returns-in-Err : goal.returns-in-Err
+returns-in-Err c = run_answers (search rules) (refused (sym c.check.ensures ∙ c.in-Err.is)) c.way_of.ensures
 
 pub returns-else-shape-cpu : goal.returns-else-shape-cpu
 returns-else-shape-cpu c = rw c.way_at.ensures c.block_on-at.ensures

@@ -1,14 +1,11 @@
 use mathlib.Core.Path.{refl}
 use Rattle.calls.specs.Results.{went_to}
-use Rattle.put_runs.proofs.Steps.{clear_whole_step, said_refused, gave_refused, run_stays, run_follows}
+use Rattle.put_runs.proofs.Steps.{clear_whole_step, fault_refused, run_stays, run_follows}
 use Rattle.put_runs.proofs.whole_on.Goals as goal
 
-pub returns-in-Given : goal.returns-in-Given
+pub returns-in-Ok : goal.returns-in-Ok
 unfolding went_to
-returns-in-Given c = run_follows c.requires.1 (clear_whole_step c.requires.0 c.requires.2 c.clear_huge-said.ensures (rw (c.in-Entry.is, c.in-Given.is) refl)) refl
+returns-in-Ok c = run_follows c.requires.1 (clear_whole_step c.requires.0 c.requires.2 c.clear_huge.ensures (rw c.in-Ok.is refl)) refl
 
-pub returns-in_default-gave : goal.returns-in_default-gave
-returns-in_default-gave c = run_stays _ _ (clear_whole_step c.requires.0 c.requires.2 c.clear_huge-said.ensures refl) (gave_refused _ c.in-Entry.is c.in_default-gave.not-Given) refl
-
-pub returns-in_default : goal.returns-in_default
-returns-in_default c = run_stays _ _ (clear_whole_step c.requires.0 c.requires.2 c.clear_huge-said.ensures refl) (said_refused _ c.clear_huge-said.result c.in_default.not-Entry) refl
+pub returns-in-Err : goal.returns-in-Err
+returns-in-Err c = run_stays _ _ (clear_whole_step c.requires.0 c.requires.2 c.clear_huge.ensures (rw c.in-Err.is refl)) (fault_refused c.in-Err.field-0) refl

@@ -1,3 +1,4 @@
+use native.Mathlib.Omega.{arith}
 use Rattle.laws.specs.Tests.{pick}
 use Rattle.records.specs.Encoding.{fields_of, giving_fields}
 use Rattle.records.specs.Decoding.{giving_at}
@@ -18,4 +19,4 @@ returns-in-20 c = rw c.in-20.is (rw c.block_at-in-20.ensures at c.blocked-in-20.
 
 pub returns-in_default : goal.returns-in_default
 unfolding fields_of giving_fields
-returns-in_default c = let m = c.in_default.in_default-own.rest in last_given _ _ m.0.0.1 m.0.1 m.1 (rw c.block_at-in_default.ensures at c.blocked-in_default.ensures)
+returns-in_default c = last_given _ _ (λ e. omega arith) (λ e. omega arith) (λ e. omega arith) (rw c.block_at-in_default.ensures at c.blocked-in_default.ensures)

@@ -6,7 +6,7 @@ use Rattle.records.proofs.again_taking.Goals as goal
 
 pub returns-in-1 : goal.returns-in-1
 unfolding taking_at pick fields_of taking_fields
-returns-in-1 c = rw c.in-1.is (rw (c.nowhere.ensures, c.order_at-order.ensures) at c.held.ensures)
+returns-in-1 c = rw c.in-1.is (rw c.order_at-order.ensures at c.held.ensures)
 
 pub returns-in-2 : goal.returns-in-2
 unfolding taking_at pick fields_of taking_fields
@@ -26,19 +26,19 @@ returns-in-5 c = rw c.in-5.is (rw (c.tree_spot-in-5.ensures, c.split_second-tail
 
 pub returns-in-6 : goal.returns-in-6
 unfolding taking_at pick fields_of taking_fields
-returns-in-6 c = rw c.in-6.is (rw (c.place_spot.ensures, c.place_at.ensures, c.split_second-tail.ensures, c.order_at-order.ensures) at c.held-in-6.ensures)
+returns-in-6 c = rw c.in-6.is (rw (c.from.ensures, c.place_at.ensures, c.split_second-tail.ensures, c.order_at-order.ensures) at c.held-in-6.ensures)
 
 pub returns-in-7 : goal.returns-in-7
 unfolding taking_at pick fields_of taking_fields
-returns-in-7 c = rw c.in-7.is (rw (c.place_spot-in-7.ensures, c.place_at-in-7.ensures, c.split_second-tail.ensures, c.order_at-order.ensures) at c.held-in-7.ensures)
+returns-in-7 c = rw c.in-7.is (rw (c.from-in-7.ensures, c.place_at-in-7.ensures, c.split_second-tail.ensures, c.order_at-order.ensures) at c.held-in-7.ensures)
 
 pub returns-in-8 : goal.returns-in-8
 unfolding taking_at pick fields_of taking_fields
-returns-in-8 c = rw c.in-8.is (rw (c.pass_spot.ensures, c.pass_at.ensures, c.split_second-tail.ensures, c.order_at-order.ensures) at c.held-in-8.ensures)
+returns-in-8 c = rw c.in-8.is (rw (c.from-in-8.ensures, c.pass_at.ensures, c.split_second-tail.ensures, c.order_at-order.ensures) at c.held-in-8.ensures)
 
 pub returns-in-9 : goal.returns-in-9
 unfolding taking_at pick fields_of taking_fields
-returns-in-9 c = rw c.in-9.is (rw (c.found_spot.ensures, c.found_at.ensures, c.split_second-tail.ensures, c.order_at-order.ensures) at c.held-in-9.ensures)
+returns-in-9 c = rw c.in-9.is (rw (c.from-in-9.ensures, c.found_at.ensures, c.split_second-tail.ensures, c.order_at-order.ensures) at c.held-in-9.ensures)
 
 pub returns-in-10 : goal.returns-in-10
 unfolding taking_at pick fields_of taking_fields
@@ -46,7 +46,7 @@ returns-in-10 c = rw c.in-10.is (rw (c.from_spot.ensures, c.split_second-tail.en
 
 pub returns-in-11 : goal.returns-in-11
 unfolding taking_at pick fields_of taking_fields
-returns-in-11 c = rw c.in-11.is (rw (c.found_spot-in-11.ensures, c.split_second-tail.ensures, c.order_at-order.ensures) at c.held-in-11.ensures)
+returns-in-11 c = rw c.in-11.is (rw (c.from-in-11.ensures, c.split_second-tail.ensures, c.order_at-order.ensures) at c.held-in-11.ensures)
 
 pub returns-in-12 : goal.returns-in-12
 unfolding taking_at pick fields_of taking_fields
@@ -66,8 +66,8 @@ returns-in-15 c = rw c.in-15.is (rw c.block_at.ensures at c.blocked.ensures)
 
 pub returns-in-16 : goal.returns-in-16
 unfolding taking_at pick fields_of taking_fields
-returns-in-16 c = rw c.in-16.is (rw (c.place_spot-in-16.ensures, c.place_at-in-16.ensures, c.split_second-tail.ensures, c.order_at-order.ensures) at c.held-in-16.ensures)
+returns-in-16 c = rw c.in-16.is (rw (c.from-in-16.ensures, c.place_at-in-16.ensures, c.split_second-tail.ensures, c.order_at-order.ensures) at c.held-in-16.ensures)
 
 pub returns-in_default : goal.returns-in_default
 unfolding fields_of taking_fields
-returns-in_default c = last_again _ _ _ c.in_default.in_default-own.rest (rw c.nowhere-in_default.ensures at c.held-in_default.ensures)
+returns-in_default c = last_again _ _ _ c.in_default.in_default-own.rest c.held-in_default.ensures

@@ -1,4 +1,5 @@
 use mathlib.Core.Path.{refl}
+use native.Mathlib.Omega.{arith}
 use Rattle.laws.specs.Tests.{pick}
 use Rattle.records.specs.Decoding.{creating_at}
 use Rattle.records.proofs.Picks.{other}
@@ -22,4 +23,4 @@ returns-in-25 c = rw c.in-25.is refl
 
 pub returns-in_default : goal.returns-in_default
 unfolding creating_at
-returns-in_default c = let m = c.in_default.in_default-own.rest in other _ m.0.0.0.1 (other _ m.0.0.1 (other _ m.0.1 (other _ m.1 refl)))
+returns-in_default c = other _ (λ e. omega arith) (other _ (λ e. omega arith) (other _ (λ e. omega arith) (other _ (λ e. omega arith) refl)))

@@ -1,13 +1,14 @@
 use mathlib.Core.Path.{sym, ap, ◌∙◌}
+use borrow.Author.Tests.{not-true, not-false}
 use Rattle.records.specs.Encoding.{encode}
-use Rattle.records.proofs.Returns.{first_differs, second_differs, both_same}
+use Rattle.records.specs.Decoding.{same_words}
+use Rattle.records.proofs.Returns.{words_differ, words_same}
 use Rattle.records.proofs.decode.Goals as goal
 
-pub returns-then-made-first : goal.returns-then-made-first
-returns-then-made-first c = first_differs _ _ c.read-rec.ensures (c.again-made.ensures ∙ sym (ap encode c.read-rec.ensures)) c.if-made-first.true
-
-pub returns-then-made-second : goal.returns-then-made-second
-returns-then-made-second c = second_differs _ _ c.read-rec.ensures (c.again-made.ensures ∙ sym (ap encode c.read-rec.ensures)) c.if-made-first.false c.if-made-second.true
+pub returns-then-ne : goal.returns-then-ne
+unfolding same_words
+returns-then-ne c = words_differ _ _ c.read-rec.ensures (c.again-made.ensures ∙ sym (ap encode c.read-rec.ensures)) (not-true _ (sym c.ne.ensures ∙ c.if-ne.true))
 
 pub returns : goal.returns
-returns c = both_same _ _ c.read-rec.ensures (c.again-made.ensures ∙ sym (ap encode c.read-rec.ensures)) c.if-made-first.false c.if-made-second.false
+unfolding same_words
+returns c = words_same _ _ c.read-rec.ensures (c.again-made.ensures ∙ sym (ap encode c.read-rec.ensures)) (not-false _ (sym c.ne.ensures ∙ c.if-ne.false))

@@ -5,7 +5,7 @@ use Rattle.records.proofs.encode.Goals as goal
 
 pub returns-in-Finished : goal.returns-in-Finished
 unfolding fields_of
-returns-in-Finished c = rw c.in-Finished.is (encoded Record.Finished (rw c.nowhere.ensures at c.held.ensures))
+returns-in-Finished c = rw c.in-Finished.is (encoded Record.Finished c.held.ensures)
 
 pub returns-in-Get : goal.returns-in-Get
 returns-in-Get c = rw c.in-Get.is (encoded _ c.encode_taking.ensures)

@@ -15,8 +15,8 @@ returns-in-Trees c = rw c.in-Trees.is (rw c.tree_spot.ensures at c.held.ensures)
 
 pub returns-in-Cpus : goal.returns-in-Cpus
 unfolding fields_of creating_fields
-returns-in-Cpus c = rw c.in-Cpus.is (rw c.nowhere.ensures at c.held-in-Cpus.ensures)
+returns-in-Cpus c = rw c.in-Cpus.is c.held-in-Cpus.ensures
 
 pub returns-in-Header : goal.returns-in-Header
 unfolding fields_of creating_fields
-returns-in-Header c = rw c.in-Header.is (rw c.nowhere-in-Header.ensures at c.held-in-Header.ensures)
+returns-in-Header c = rw c.in-Header.is c.held-in-Header.ensures

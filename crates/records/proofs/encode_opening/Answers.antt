@@ -11,4 +11,4 @@ returns-in-Trees c = rw c.in-Trees.is (rw c.tree_spot.ensures at c.held.ensures)
 
 pub returns-in-Cpus : goal.returns-in-Cpus
 unfolding fields_of opening_fields
-returns-in-Cpus c = rw c.in-Cpus.is (rw c.nowhere.ensures at c.held-in-Cpus.ensures)
+returns-in-Cpus c = rw c.in-Cpus.is c.held-in-Cpus.ensures

@@ -3,7 +3,7 @@ use Rattle.records.proofs.encode_taking.Goals as goal
 
 pub returns-in-Own : goal.returns-in-Own
 unfolding fields_of taking_fields
-returns-in-Own c = rw c.in-Own.is (rw c.nowhere.ensures at c.held.ensures)
+returns-in-Own c = rw c.in-Own.is c.held.ensures
 
 pub returns-in-TakeCount : goal.returns-in-TakeCount
 unfolding fields_of taking_fields
@@ -23,19 +23,19 @@ returns-in-LookAgain c = rw c.in-LookAgain.is (rw c.tree_spot-in-LookAgain.ensur
 
 pub returns-in-Release : goal.returns-in-Release
 unfolding fields_of taking_fields
-returns-in-Release c = rw c.in-Release.is (rw c.place_spot.ensures at c.held-in-Release.ensures)
+returns-in-Release c = rw c.in-Release.is (rw c.from.ensures at c.held-in-Release.ensures)
 
 pub returns-in-Unreserve : goal.returns-in-Unreserve
 unfolding fields_of taking_fields
-returns-in-Unreserve c = rw c.in-Unreserve.is (rw c.place_spot-in-Unreserve.ensures at c.held-in-Unreserve.ensures)
+returns-in-Unreserve c = rw c.in-Unreserve.is (rw c.from-in-Unreserve.ensures at c.held-in-Unreserve.ensures)
 
 pub returns-in-Try : goal.returns-in-Try
 unfolding fields_of taking_fields
-returns-in-Try c = rw c.in-Try.is (rw c.pass_spot.ensures at c.held-in-Try.ensures)
+returns-in-Try c = rw c.in-Try.is (rw c.from-in-Try.ensures at c.held-in-Try.ensures)
 
 pub returns-in-Write : goal.returns-in-Write
 unfolding fields_of taking_fields
-returns-in-Write c = rw c.in-Write.is (rw c.found_spot.ensures at c.held-in-Write.ensures)
+returns-in-Write c = rw c.in-Write.is (rw c.from-in-Write.ensures at c.held-in-Write.ensures)
 
 pub returns-in-Steal : goal.returns-in-Steal
 unfolding fields_of taking_fields
@@ -43,7 +43,7 @@ returns-in-Steal c = rw c.in-Steal.is (rw c.from_spot.ensures at c.held-in-Steal
 
 pub returns-in-StealCount : goal.returns-in-StealCount
 unfolding fields_of taking_fields
-returns-in-StealCount c = rw c.in-StealCount.is (rw c.found_spot-in-StealCount.ensures at c.held-in-StealCount.ensures)
+returns-in-StealCount c = rw c.in-StealCount.is (rw c.from-in-StealCount.ensures at c.held-in-StealCount.ensures)
 
 pub returns-in-Child : goal.returns-in-Child
 unfolding fields_of taking_fields
@@ -63,8 +63,8 @@ returns-in-Last c = rw c.in-Last.is c.blocked.ensures
 
 pub returns-in-Fail : goal.returns-in-Fail
 unfolding fields_of taking_fields
-returns-in-Fail c = rw c.in-Fail.is (rw c.place_spot-in-Fail.ensures at c.held-in-Fail.ensures)
+returns-in-Fail c = rw c.in-Fail.is (rw c.from-in-Fail.ensures at c.held-in-Fail.ensures)
 
 pub returns-in-NoRoom : goal.returns-in-NoRoom
 unfolding fields_of taking_fields
-returns-in-NoRoom c = rw c.in-NoRoom.is (rw c.nowhere-in-NoRoom.ensures at c.held-in-NoRoom.ensures)
+returns-in-NoRoom c = rw c.in-NoRoom.is c.held-in-NoRoom.ensures

@@ -1,4 +1,5 @@
 use mathlib.Core.Path.{refl, ap}
+use native.Mathlib.Omega.{arith}
 use Rattle.laws.specs.Tests.{pick}
 use Rattle.records.specs.Types.{Giving}
 use Rattle.records.specs.Decoding.{giving_at}
@@ -19,4 +20,4 @@ returns-in-20 c = rw (c.in-20.is, c.block_at-in-20.ensures) refl
 
 pub returns-in_default : goal.returns-in_default
 unfolding giving_at
-returns-in_default c = let m = c.in_default.in_default-own.rest in other _ m.0.0.1 (other _ m.0.1 (other _ m.1 (ap Giving.ToTree c.block_at-in_default.ensures)))
+returns-in_default c = other _ (λ e. omega arith) (other _ (λ e. omega arith) (other _ (λ e. omega arith) (ap Giving.ToTree c.block_at-in_default.ensures)))

@@ -1,20 +1,22 @@
 use mathlib.Core.Path.{refl}
+use native.Mathlib.Omega.{arith}
+use Rattle.laws.specs.Tests.{pick}
 use Rattle.records.specs.Decoding.{pass_at}
-use Rattle.records.proofs.Picks.{same, other}
+use Rattle.records.proofs.Picks.{other}
 use Rattle.records.proofs.pass_at.Goals as goal
 
-pub returns-then-kind-eq2 : goal.returns-then-kind-eq2
-unfolding pass_at
-returns-then-kind-eq2 c = same _ c.if-kind-eq2.true refl
+pub returns-in-2 : goal.returns-in-2
+unfolding pass_at pick
+returns-in-2 c = rw c.in-2.is refl
 
-pub returns-then-kind-eq3 : goal.returns-then-kind-eq3
-unfolding pass_at
-returns-then-kind-eq3 c = other _ c.if-kind-eq2.false (same _ c.if-kind-eq3.true refl)
+pub returns-in-3 : goal.returns-in-3
+unfolding pass_at pick
+returns-in-3 c = rw c.in-3.is refl
 
-pub returns-then-kind-eq4 : goal.returns-then-kind-eq4
-unfolding pass_at
-returns-then-kind-eq4 c = other _ c.if-kind-eq2.false (other _ c.if-kind-eq3.false (same _ c.if-kind-eq4.true refl))
+pub returns-in-4 : goal.returns-in-4
+unfolding pass_at pick
+returns-in-4 c = rw c.in-4.is refl
 
-pub returns : goal.returns
+pub returns-in_default : goal.returns-in_default
 unfolding pass_at
-returns c = other _ c.if-kind-eq2.false (other _ c.if-kind-eq3.false (other _ c.if-kind-eq4.false refl))
+returns-in_default c = other _ (λ e. omega arith) (other _ (λ e. omega arith) (other _ (λ e. omega arith) refl))

@@ -1,17 +1,18 @@
+use native.Mathlib.Omega.{arith}
 use Rattle.records.proofs.Returns.{read_finished, read_get, read_put, read_create, read_open}
 use Rattle.records.proofs.read.Goals as goal
 
-pub returns-then-stage-eq0 : goal.returns-then-stage-eq0
-returns-then-stage-eq0 c = read_finished _ _ c.split_first-head.ensures c.if-stage-eq0.true
+pub returns-in-0 : goal.returns-in-0
+returns-in-0 c = read_finished _ _ c.split_first-head.ensures c.in-0.is
 
-pub returns-then-stage-lt18 : goal.returns-then-stage-lt18
-returns-then-stage-lt18 c = read_get _ _ c.split_first-head.ensures c.if-stage-eq0.false c.if-stage-lt18.true c.taking_at.ensures
+pub returns-in-1-to-17 : goal.returns-in-1-to-17
+returns-in-1-to-17 c = read_get _ _ c.split_first-head.ensures (omega arith) (omega arith) c.taking_at.ensures
 
-pub returns-then-stage-lt22 : goal.returns-then-stage-lt22
-returns-then-stage-lt22 c = read_put _ _ c.split_first-head.ensures c.if-stage-eq0.false c.if-stage-lt18.false c.if-stage-lt22.true c.giving_at.ensures
+pub returns-in-18-to-21 : goal.returns-in-18-to-21
+returns-in-18-to-21 c = read_put _ _ c.split_first-head.ensures (omega arith) (omega arith) c.giving_at.ensures
 
-pub returns-then-stage-lt27 : goal.returns-then-stage-lt27
-returns-then-stage-lt27 c = read_create _ _ c.split_first-head.ensures c.if-stage-eq0.false c.if-stage-lt18.false c.if-stage-lt22.false c.if-stage-lt27.true c.creating_at.ensures
+pub returns-in-22-to-26 : goal.returns-in-22-to-26
+returns-in-22-to-26 c = read_create _ _ c.split_first-head.ensures (omega arith) (omega arith) c.creating_at.ensures
 
-pub returns : goal.returns
-returns c = read_open _ _ c.split_first-head.ensures c.if-stage-eq0.false c.if-stage-lt18.false c.if-stage-lt22.false c.if-stage-lt27.false c.opening_at.ensures
+pub returns-in_default : goal.returns-in_default
+returns-in_default c = read_open _ _ c.split_first-head.ensures (omega arith) c.opening_at.ensures

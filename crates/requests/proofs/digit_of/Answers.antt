@@ -1,17 +1,12 @@
-use mathlib.Core.Path.{sym, ◌∙◌}
-use borrow.Author.Tests.{lt-ltb, le-ltb}
-use Rattle.laws.proofs.Tests.{pick_yes, pick_no}
-use Rattle.requests.specs.Lines.{digit_in}
+use native.Mathlib.Omega.{arith}
+use Rattle.requests.proofs.Scans.{digit_is, digit_below, digit_above}
 use Rattle.requests.proofs.digit_of.Goals as goal
 
-pub returns-then-byte-lt48 : goal.returns-then-byte-lt48
-unfolding digit_in
-returns-then-byte-lt48 c = sym (pick_yes _ _ _ (lt-ltb _ _ c.if-byte-lt48.true))
+pub returns-in-48-to-57 : goal.returns-in-48-to-57
+returns-in-48-to-57 c = digit_is _ (omega arith) (omega arith)
 
-pub returns-then-byte-gt57 : goal.returns-then-byte-gt57
-unfolding digit_in
-returns-then-byte-gt57 c = sym (pick_no _ _ _ (le-ltb _ _ c.if-byte-lt48.false) ∙ pick_yes _ _ _ (lt-ltb _ _ c.if-byte-gt57.true))
+pub returns-in_default : goal.returns-in_default
+returns-in_default c = digit_below _ (omega arith)
 
-pub returns : goal.returns
-unfolding digit_in
-returns c = sym (pick_no _ _ _ (le-ltb _ _ c.if-byte-lt48.false) ∙ pick_no _ _ _ (le-ltb _ _ c.if-byte-gt57.false))
+pub returns-in_default-2 : goal.returns-in_default-2
+returns-in_default-2 c = digit_above _ (omega arith)

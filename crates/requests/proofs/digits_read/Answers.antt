@@ -1,22 +1,19 @@
 use mathlib.Core.Path.{sym, ◌∙◌}
-use borrow.Author.Tests.{eq-eqb, ne_eqb}
-use Rattle.laws.proofs.Tests.{pick_yes, pick_no}
+use native.Mathlib.Omega.{arith}
+use borrow.Author.Tests.{ne_eqb}
+use Rattle.laws.specs.Tests.{pick}
+use Rattle.laws.proofs.Tests.{pick_no}
 use Rattle.requests.specs.Lines.{digits_read}
-use Rattle.requests.proofs.Scans.{digit_goes, digit_fails}
 use Rattle.requests.proofs.digits_read.Goals as goal
 
-pub returns-then-byte-eq-SPACE : goal.returns-then-byte-eq-SPACE
-unfolding digits_read
-returns-then-byte-eq-SPACE c = c.space_after.ensures ∙ sym (pick_yes _ _ _ (eq-eqb _ _ c.if-byte-eq-SPACE.true))
+pub returns-in-32 : goal.returns-in-32
+unfolding digits_read pick
+returns-in-32 c = rw c.in-32.is c.space_after.ensures
 
-pub returns-then-byte-eq-NEWLINE : goal.returns-then-byte-eq-NEWLINE
-unfolding digits_read
-returns-then-byte-eq-NEWLINE c = c.whole_of.ensures ∙ sym (pick_no _ _ _ (ne_eqb _ _ c.if-byte-eq-SPACE.false) ∙ pick_yes _ _ _ (eq-eqb _ _ c.if-byte-eq-NEWLINE.true))
+pub returns-in-10 : goal.returns-in-10
+unfolding digits_read pick
+returns-in-10 c = rw c.in-10.is c.whole_of.ensures
 
-pub returns-in-Is : goal.returns-in-Is
+pub returns-in_default : goal.returns-in_default
 unfolding digits_read
-returns-in-Is c = digit_goes _ _ _ _ c.digit_of.ensures c.in-Is.is c.number_after.ensures ∙ sym (pick_no _ _ _ (ne_eqb _ _ c.if-byte-eq-SPACE.false) ∙ pick_no _ _ _ (ne_eqb _ _ c.if-byte-eq-NEWLINE.false))
-
-pub returns-in-No : goal.returns-in-No
-unfolding digits_read
-returns-in-No c = digit_fails _ _ _ _ c.digit_of.ensures c.in-No.is ∙ sym (pick_no _ _ _ (ne_eqb _ _ c.if-byte-eq-SPACE.false) ∙ pick_no _ _ _ (ne_eqb _ _ c.if-byte-eq-NEWLINE.false))
+returns-in_default c = c.digit_read.ensures ∙ sym (pick_no _ _ _ (ne_eqb _ _ (λ e. omega arith)) ∙ pick_no _ _ _ (ne_eqb _ _ (λ e. omega arith)))

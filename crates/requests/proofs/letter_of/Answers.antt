@@ -1,21 +1,23 @@
 use mathlib.Core.Path.{sym, ◌∙◌}
-use borrow.Author.Tests.{eq-eqb, ne_eqb}
-use Rattle.laws.proofs.Tests.{pick_yes, pick_no}
+use native.Mathlib.Omega.{arith}
+use borrow.Author.Tests.{ne_eqb}
+use Rattle.laws.specs.Tests.{pick}
+use Rattle.laws.proofs.Tests.{pick_no}
 use Rattle.requests.specs.Lines.{letter_of}
 use Rattle.requests.proofs.letter_of.Goals as goal
 
-pub returns-then-byte-eq122 : goal.returns-then-byte-eq122
-unfolding letter_of
-returns-then-byte-eq122 c = sym (pick_yes _ _ _ (eq-eqb _ _ c.if-byte-eq122.true))
+pub returns-in-122 : goal.returns-in-122
+unfolding letter_of pick
+returns-in-122 c = rw c.in-122.is
 
-pub returns-then-byte-eq103 : goal.returns-then-byte-eq103
-unfolding letter_of
-returns-then-byte-eq103 c = sym (pick_no _ _ _ (ne_eqb _ _ c.if-byte-eq122.false) ∙ pick_yes _ _ _ (eq-eqb _ _ c.if-byte-eq103.true))
+pub returns-in-103 : goal.returns-in-103
+unfolding letter_of pick
+returns-in-103 c = rw c.in-103.is
 
-pub returns-then-byte-eq112 : goal.returns-then-byte-eq112
-unfolding letter_of
-returns-then-byte-eq112 c = sym (pick_no _ _ _ (ne_eqb _ _ c.if-byte-eq122.false) ∙ pick_no _ _ _ (ne_eqb _ _ c.if-byte-eq103.false) ∙ pick_yes _ _ _ (eq-eqb _ _ c.if-byte-eq112.true))
+pub returns-in-112 : goal.returns-in-112
+unfolding letter_of pick
+returns-in-112 c = rw c.in-112.is
 
-pub returns : goal.returns
+pub returns-in_default : goal.returns-in_default
 unfolding letter_of
-returns c = sym (pick_no _ _ _ (ne_eqb _ _ c.if-byte-eq122.false) ∙ pick_no _ _ _ (ne_eqb _ _ c.if-byte-eq103.false) ∙ pick_no _ _ _ (ne_eqb _ _ c.if-byte-eq112.false))
+returns-in_default c = sym (pick_no _ _ _ (ne_eqb _ _ (λ e. omega arith)) ∙ pick_no _ _ _ (ne_eqb _ _ (λ e. omega arith)) ∙ pick_no _ _ _ (ne_eqb _ _ (λ e. omega arith)))

@@ -8,9 +8,9 @@ use Rattle.places.proofs.Blocks.{block_out}
 use Rattle.word_stages.proofs.Rules.{cleared_there, run_fits}
 use Rattle.word_stages.proofs.clear.Goals as goal
 
-pub returns-in-Nowhere : goal.returns-in-Nowhere
-returns-in-Nowhere c = block_out _ _ _ _ c.block_at.ensures c.in-Nowhere.is
+pub returns-in-None : goal.returns-in-None
+returns-in-None c = block_out _ _ _ _ c.block_at.ensures c.in-None.is
 
-pub returns-in-At : goal.returns-in-At
+pub returns-in-Some : goal.returns-in-Some
 unfolding give clear in_words
-returns-in-At c = cleared_there _ _ _ _ c.block_at.ensures c.in-At.is _ (clears _) (rw c.put.ensures at c.given_answer.ensures) (run_size _) _ (omega arith) (run_fits _ _ _ c.block_at.ensures c.in-At.is) c.clear_run-said.ensures refl
+returns-in-Some c = cleared_there _ _ _ _ c.block_at.ensures c.in-Some.is _ (clears _) (rw c.put.ensures at c.given_answer.ensures) (run_size _) _ (omega arith) (run_fits _ _ _ c.block_at.ensures c.in-Some.is) c.clear_run-said.ensures refl
