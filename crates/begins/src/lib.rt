@@ -96,7 +96,7 @@ fn block_of(frame: Frame, order: Order) -> Result<Block, Answer>
     requires { frame.0 < 2 ^ 25 }
     ensures { result ≡ block_of_in frame order }
 {
-    if frame.0 % places::frames_of(order) as u64 != 0 {
+    if frame.0 % order.frames() as u64 != 0 {
         return Err(Answer::Misaligned);
     }
     match order {
@@ -124,7 +124,7 @@ pub fn put_of(
         return Err(Answer::BadCpu);
     }
     let order = order_at(order).ok_or(Answer::BadOrder)?;
-    if entries::huge_frames(shape.size) as u64 * CHILD_FRAMES <= frame.0 {
+    if shape.size.huge_frames() as u64 * CHILD_FRAMES <= frame.0 {
         return Err(Answer::BadFrame);
     }
     let block = block_of(frame, order)?;

@@ -22,7 +22,7 @@ pub fn check(
     let Zoned::Running(size) = entries::zone_says(header)? else {
         return Err(Answer::Closed);
     };
-    if !entries::lengths_fit(size, words, children, trees, cpus) {
+    if !size.lengths_fit(words, children, trees, cpus) {
         return Err(Answer::BadBuffers);
     }
     Ok(Shape {

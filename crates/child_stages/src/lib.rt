@@ -30,7 +30,7 @@ fn lent<R, F: FnOnce(&mut [u16]) -> Result<R, Fault>>(
     ensures { LentTo (shape_of shape) tree (Err Fault.NoChild) (FnOnceReturnsAtMut F.FnOnce f) children.old (outcome result children.new) }
 {
     let first = tree.0 as usize * TREE_CHILDREN;
-    let end = first + entries::children_of(shape.size, tree) as usize;
+    let end = first + shape.size.children_of(tree) as usize;
     if children.len() < end {
         return Err(Fault::NoChild);
     }
@@ -111,7 +111,7 @@ fn next_child(shape: Shape, cpu: u8, order: Order, place: Place, start: u8, chil
     ensures { result ≡ next_child (shape_of shape) cpu order place start child }
 {
     let next = child as u16 + 1;
-    if next == entries::children_of(shape.size, places::place_tree(place)) {
+    if next == shape.size.children_of(place.tree()) {
         if start == 0 {
             return calls::get(cpu, Taking::Fail { order, place });
         }
@@ -153,12 +153,12 @@ pub fn child_run(
 ) -> Answer
     ensures { outcome result children.new ≡ in_children (shape_of shape) (take (shape_of shape) cpu (Taking.Child (Order.Run run) place start child)) children.old }
 {
-    let tree = places::place_tree(place);
-    if entries::children_of(shape.size, tree) <= child as u16 {
+    let tree = place.tree();
+    if shape.size.children_of(tree) <= child as u16 {
         return Answer::BadRecord;
     }
     let passed = next_child(shape, cpu, Order::Run(run), place, start, child);
-    let said = claim(children, shape, tree, child, rules::frames_of(run));
+    let said = claim(children, shape, tree, child, run.frames());
     claimed_answer(
         calls::get(
             cpu,
@@ -186,8 +186,8 @@ pub fn child_nine(
 ) -> Answer
     ensures { outcome result children.new ≡ in_children (shape_of shape) (take (shape_of shape) cpu (Taking.Child Order.Nine place start child)) children.old }
 {
-    let tree = places::place_tree(place);
-    if entries::children_of(shape.size, tree) <= child as u16 {
+    let tree = place.tree();
+    if shape.size.children_of(tree) <= child as u16 {
         return Answer::BadRecord;
     }
     let passed = next_child(shape, cpu, Order::Nine, place, start, child);
@@ -208,12 +208,12 @@ pub fn give_back(
 ) -> Answer
     ensures { outcome result children.new ≡ in_children (shape_of shape) (take (shape_of shape) cpu (Taking.GiveBack run place start child)) children.old }
 {
-    let tree = places::place_tree(place);
-    if entries::children_of(shape.size, tree) <= child as u16 {
+    let tree = place.tree();
+    if shape.size.children_of(tree) <= child as u16 {
         return Answer::BadRecord;
     }
     let next = next_child(shape, cpu, Order::Run(run), place, start, child);
-    let said = give_count(children, shape, tree, child, rules::frames_of(run));
+    let said = give_count(children, shape, tree, child, run.frames());
     lending::given_answer(next, said)
 }
 
@@ -223,7 +223,7 @@ pub fn give_back(
 pub fn clear_whole(children: &mut [u16], shape: Shape, cpu: u8, huge: Huge) -> Answer
     ensures { outcome result children.new ≡ ranged (shape_of shape) (Block.Whole huge) (in_children (shape_of shape) (give (shape_of shape) cpu (Giving.Clear (Block.Whole huge)))) children.old }
 {
-    match places::block_at(shape, Block::Whole(huge)) {
+    match shape.block_at(Block::Whole(huge)) {
         None => Answer::BadRecord,
         Some(at) => {
             let said = clear_huge(children, shape, at.tree, at.child);
@@ -236,10 +236,10 @@ pub fn clear_whole(children: &mut [u16], shape: Shape, cpu: u8, huge: Huge) -> A
 pub fn raise(children: &mut [u16], shape: Shape, cpu: u8, run: Run, first: Frame) -> Answer
     ensures { outcome result children.new ≡ ranged (shape_of shape) (Block.Run run first) (in_children (shape_of shape) (give (shape_of shape) cpu (Giving.Raise run first))) children.old }
 {
-    match places::block_at(shape, Block::Run { run, first }) {
+    match shape.block_at(Block::Run { run, first }) {
         None => Answer::BadRecord,
         Some(at) => {
-            let said = give_count(children, shape, at.tree, at.child, rules::frames_of(run));
+            let said = give_count(children, shape, at.tree, at.child, run.frames());
             lending::given_answer(
                 calls::put(cpu, Giving::ToEntry(Block::Run { run, first })),
                 said,

@@ -58,10 +58,10 @@ fn cpu_says(size: Size, word: u64) -> Option<CpuEntry>
     if f.zero != 0 {
         return None;
     }
-    if entries::children_of(size, tree) <= f.start as u16 {
+    if size.children_of(tree) <= f.start as u16 {
         return None;
     }
-    if entries::capacity_of(size, tree) < f.count {
+    if size.capacity_of(tree) < f.count {
         return None;
     }
     Some(CpuEntry::Holds {
@@ -162,7 +162,7 @@ pub fn add_own(
     let Some(Held { start, count }) = held_at(cpus, size, cpu, tree)? else {
         return Ok(false);
     };
-    let sum = entries::count_in(size, tree, count as u32 + frames as u32)?;
+    let sum = size.count_in(tree, count as u32 + frames as u32)?;
     // rule 1, giving back: the entry's count rises
     cpus[cpu] = join_cpu(tree, start, sum);
     Ok(true)
@@ -208,10 +208,10 @@ pub fn write(cpus: &mut [u64], size: Size, cpu: usize, tree: Tree, count: u16) -
     ensures { outcome result cpus.new ≡ write_in size cpu tree count cpus.old }
 {
     look_cpu(cpus, size, cpu)?;
-    if entries::trees_of(size) <= tree.0 {
+    if size.trees() <= tree.0 {
         return Err(Fault::Damaged);
     }
-    let count = entries::count_in(size, tree, count as u32)?;
+    let count = size.count_in(tree, count as u32)?;
     // rule 3: the entry anew
     cpus[cpu] = join_cpu(tree, 0, count);
     Ok(())
@@ -249,7 +249,7 @@ pub fn set_start(
     let Some(Held { start: _, count }) = held_at(cpus, size, cpu, tree)? else {
         return Ok(false);
     };
-    if entries::children_of(size, tree) <= child as u16 {
+    if size.children_of(tree) <= child as u16 {
         return Err(Fault::Damaged);
     }
     // rule 6: the start child

@@ -44,7 +44,7 @@ fn own_answer(shape: Shape, cpu: u8, order: Order, said: Result<Claimed, Fault>)
 pub fn own(cpus: &mut [u64], shape: Shape, cpu: u8, order: Order) -> Answer
     ensures { outcome result cpus.new ≡ in_cpus (shape_of shape) (take (shape_of shape) cpu (Taking.Own order)) cpus.old }
 {
-    let said = cpu_entries::claim_own(cpus, shape.size, cpu as usize, places::frames_of(order));
+    let said = cpu_entries::claim_own(cpus, shape.size, cpu as usize, order.frames());
     own_answer(shape, cpu, order, said)
 }
 
@@ -105,10 +105,7 @@ fn again_answer(
                 hand,
             },
         ),
-        Ok(Again::Missed) => calls::get(
-            cpu,
-            places::after_place(shape, cpu, order, Place::Own(tree)),
-        ),
+        Ok(Again::Missed) => calls::get(cpu, shape.after_place(cpu, order, Place::Own(tree))),
         Err(fault) => Answer::from(fault),
     }
 }
@@ -117,13 +114,7 @@ fn again_answer(
 pub fn look_again(cpus: &mut [u64], shape: Shape, cpu: u8, order: Order, tree: Tree) -> Answer
     ensures { outcome result cpus.new ≡ in_cpus (shape_of shape) (take (shape_of shape) cpu (Taking.LookAgain order tree)) cpus.old }
 {
-    let said = cpu_entries::claim_or_release(
-        cpus,
-        shape.size,
-        cpu as usize,
-        tree,
-        places::frames_of(order),
-    );
+    let said = cpu_entries::claim_or_release(cpus, shape.size, cpu as usize, tree, order.frames());
     again_answer(shape, cpu, order, tree, said)
 }
 
@@ -140,7 +131,7 @@ fn release_answer(
 {
     match said {
         Ok(Some(hand)) => calls::get(cpu, Taking::Unreserve { order, place, hand }),
-        Ok(None) => calls::get(cpu, places::after_place(shape, cpu, order, place)),
+        Ok(None) => calls::get(cpu, shape.after_place(cpu, order, place)),
         Err(fault) => Answer::from(fault),
     }
 }
@@ -148,7 +139,7 @@ fn release_answer(
 pub fn release(cpus: &mut [u64], shape: Shape, cpu: u8, order: Order, place: Place) -> Answer
     ensures { outcome result cpus.new ≡ in_cpus (shape_of shape) (take (shape_of shape) cpu (Taking.Release order place)) cpus.old }
 {
-    let said = cpu_entries::release(cpus, shape.size, cpu as usize, places::place_tree(place));
+    let said = cpu_entries::release(cpus, shape.size, cpu as usize, place.tree());
     release_answer(shape, cpu, order, place, said)
 }
 
@@ -187,20 +178,14 @@ pub fn write(
 ) -> Answer
     ensures { outcome result cpus.new ≡ in_cpus (shape_of shape) (take (shape_of shape) cpu (Taking.Write order found hand)) cpus.old }
 {
-    let frames = places::frames_of(order);
+    let frames = order.frames();
     if cpus.len() <= cpu as usize {
         return Answer::BadRecord;
     }
     if hand < frames {
         return Answer::Damaged;
     }
-    let said = cpu_entries::write(
-        cpus,
-        shape.size,
-        cpu as usize,
-        places::found_tree(found),
-        hand - frames,
-    );
+    let said = cpu_entries::write(cpus, shape.size, cpu as usize, found.tree(), hand - frames);
     write_answer(shape, cpu, order, found, said)
 }
 
@@ -216,7 +201,7 @@ fn steal_answer(
     ensures { result ≡ steal_answer (shape_of shape) cpu order from said }
 {
     match said {
-        Ok(None) => calls::get(cpu, places::after_steal(shape, cpu, order, from)),
+        Ok(None) => calls::get(cpu, shape.after_steal(cpu, order, from)),
         Ok(Some(Stolen { tree, count })) => calls::get(
             cpu,
             Taking::StealCount {
@@ -243,11 +228,11 @@ pub fn steal(cpus: &mut [u64], shape: Shape, cpu: u8, order: Order, from: u8) ->
 pub fn last(cpus: &mut [u64], shape: Shape, cpu: u8, block: Block) -> Answer
     ensures { outcome result cpus.new ≡ ranged (shape_of shape) block (in_cpus (shape_of shape) (take (shape_of shape) cpu (Taking.Last block))) cpus.old }
 {
-    match places::block_at(shape, block) {
+    match shape.block_at(block) {
         None => Answer::BadRecord,
         Some(at) => {
             let said = cpu_entries::set_start(cpus, shape.size, cpu as usize, at.tree, at.child);
-            let done = Answer::Done(places::first_of(block));
+            let done = Answer::Done(block.first());
             held_answer(done, done, said)
         }
     }
@@ -257,7 +242,7 @@ pub fn last(cpus: &mut [u64], shape: Shape, cpu: u8, block: Block) -> Answer
 pub fn to_entry(cpus: &mut [u64], shape: Shape, cpu: u8, block: Block) -> Answer
     ensures { outcome result cpus.new ≡ ranged (shape_of shape) block (in_cpus (shape_of shape) (give (shape_of shape) cpu (Giving.ToEntry block))) cpus.old }
 {
-    match places::block_at(shape, block) {
+    match shape.block_at(block) {
         None => Answer::BadRecord,
         Some(at) => {
             let said = cpu_entries::add_own(
@@ -265,10 +250,10 @@ pub fn to_entry(cpus: &mut [u64], shape: Shape, cpu: u8, block: Block) -> Answer
                 shape.size,
                 cpu as usize,
                 at.tree,
-                places::block_frames(block),
+                block.frames(),
             );
             held_answer(
-                Answer::Done(places::first_of(block)),
+                Answer::Done(block.first()),
                 calls::put(cpu, Giving::ToTree(block)),
                 said,
             )

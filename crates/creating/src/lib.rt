@@ -39,7 +39,7 @@ fn creatable(
         return Err(Answer::BadBuffers);
     }
     let size = Size((huge - 1) as u16);
-    if entries::lengths_fit(size, words, children, trees, cpus) {
+    if size.lengths_fit(words, children, trees, cpus) {
         return Ok(Shape {
             size,
             cpus: cpus as u8,
@@ -92,7 +92,7 @@ fn fresh_word(words: &mut [u64], shape: Shape, at: u32) -> Answer
 {
     match lower::store_fresh_word(words, at as usize) {
         Ok(()) => {
-            if at + 1 < CHILD_WORDS * entries::huge_frames(shape.size) {
+            if at + 1 < CHILD_WORDS * shape.size.huge_frames() {
                 return creating(Creating::Words(at + 1));
             }
             creating(Creating::Children(Huge(0)))
@@ -108,7 +108,7 @@ fn fresh_child(children: &mut [u16], shape: Shape, huge: Huge) -> Answer
 {
     match lower::store_fresh_child(children, huge.0 as usize) {
         Ok(()) => {
-            if huge.0 + 1 < entries::huge_frames(shape.size) {
+            if huge.0 + 1 < shape.size.huge_frames() {
                 return creating(Creating::Children(Huge(huge.0 + 1)));
             }
             creating(Creating::Trees(Tree(0)))
@@ -122,14 +122,9 @@ fn fresh_tree(trees: &mut [u16], shape: Shape, tree: Tree) -> Answer
     requires { (trees_of (shape_of shape) ≡ length trees.old) × (tree.0 < trees_of (shape_of shape)) }
     ensures { result_of result (zone [] [] [] trees.new []) ≡ done (zone [] [] [] trees.old []) (create_stage (shape_of shape) (Creating.Trees tree)) }
 {
-    match entries::store_count(
-        trees,
-        shape.size,
-        tree,
-        entries::capacity_of(shape.size, tree) as u32,
-    ) {
+    match entries::store_count(trees, shape.size, tree, shape.size.capacity_of(tree) as u32) {
         Ok(()) => {
-            if tree.0 + 1 < entries::trees_of(shape.size) {
+            if tree.0 + 1 < shape.size.trees() {
                 return creating(Creating::Trees(Tree(tree.0 + 1)));
             }
             creating(Creating::Cpus(0))
@@ -212,7 +207,7 @@ pub fn create_step(
             Record::Get { cpu: _, stage: _ } => Answer::BadRecord,
             Record::Put { cpu: _, stage: _ } => Answer::BadRecord,
             Record::Create(stage) => {
-                if places::creating_in(shape, stage) {
+                if shape.creating_in(stage) {
                     return create_stage(header, words, children, trees, cpus, shape, stage);
                 }
                 Answer::BadRecord

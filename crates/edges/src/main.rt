@@ -220,13 +220,7 @@ fn take_run(out: Stdout, word: usize, value: u64, run: Run)
     line(
         out,
         b"take_run",
-        &[
-            rules::frames_of(run) as u64,
-            word as u64,
-            value,
-            said,
-            words[word],
-        ],
+        &[run.frames() as u64, word as u64, value, said, words[word]],
     );
 }
 
@@ -236,13 +230,7 @@ fn clear_run(out: Stdout, value: u64, bit: u32, run: Run) {
     line(
         out,
         b"clear_run",
-        &[
-            rules::frames_of(run) as u64,
-            value,
-            bit as u64,
-            said,
-            words[7],
-        ],
+        &[run.frames() as u64, value, bit as u64, said, words[7]],
     );
 }
 
@@ -495,7 +483,7 @@ fn search(out: Stdout, start: usize, second: u16, third: u16, run: Run) {
         out,
         b"search",
         &[
-            rules::frames_of(run) as u64,
+            run.frames() as u64,
             start as u64,
             second as u64,
             third as u64,

@@ -8,7 +8,7 @@ ghost use Rattle.laws.specs.Tables.{outcome};
 ghost use Rattle.laws.specs.Fields.{join};
 ghost use Rattle.rules.specs.Numbers.{format1, trees_of, children_of, capacity};
 ghost use Rattle.rules.specs.Entries.{header_says, header_word, running, clean, tree_says, tree_word};
-ghost use Rattle.rules.specs.Places.{fits, class_of, pass_tree};
+ghost use Rattle.rules.specs.Places.{fits, class_of};
 ghost use Rattle.entries.specs.Sizes.{huge_of, shape_of, by_header, sized, zoned_in, lengths_of};
 ghost use Rattle.entries.specs.Split.{header_fields, tree_fields};
 ghost use Rattle.entries.specs.Steps.{take_count_in, add_count_in, unreserve_in, reserve_in, take_with_in, store_count_in, look_tree_in, count_in, stored_in};
@@ -30,56 +30,58 @@ const MOST_CPUS: usize = 64;
 #[derive(Clone, Copy)]
 pub struct Size(pub u16);
 
-pub fn huge_frames(size: Size) -> u32
-    ensures { result ≡ huge_of size }
-{
-    size.0 as u32 + 1
-}
+impl Size {
+    pub fn huge_frames(self) -> u32
+        ensures { result ≡ huge_of self }
+    {
+        self.0 as u32 + 1
+    }
 
-pub fn trees_of(size: Size) -> u16
-    ensures { result ≡ trees_of (shape_of size) }
-{
-    size.0 / TREE_CHILDREN + 1
-}
+    pub fn trees(self) -> u16
+        ensures { result ≡ trees_of (shape_of self) }
+    {
+        self.0 / TREE_CHILDREN + 1
+    }
 
-// The children of a tree; none, where the zone has no such tree.
-pub fn children_of(size: Size, tree: Tree) -> u16
-    ensures { result ≡ children_of (shape_of size) tree.0 }
-{
-    let last = size.0 / TREE_CHILDREN;
-    if tree.0 < last {
-        return TREE_CHILDREN;
+    // The children of a tree; none, where the zone has no such tree.
+    pub fn children_of(self, tree: Tree) -> u16
+        ensures { result ≡ children_of (shape_of self) tree.0 }
+    {
+        let last = self.0 / TREE_CHILDREN;
+        if tree.0 < last {
+            return TREE_CHILDREN;
+        }
+        if tree.0 == last {
+            return self.0 % TREE_CHILDREN + 1;
+        }
+        0
     }
-    if tree.0 == last {
-        return size.0 % TREE_CHILDREN + 1;
-    }
-    0
-}
 
-pub fn capacity_of(size: Size, tree: Tree) -> u16
-    ensures { result ≡ capacity (shape_of size) tree.0 }
-{
-    CHILD_FRAMES * children_of(size, tree)
-}
+    pub fn capacity_of(self, tree: Tree) -> u16
+        ensures { result ≡ capacity (shape_of self) tree.0 }
+    {
+        CHILD_FRAMES * self.children_of(tree)
+    }
 
-// Whether the tables have the lengths that the size asks for.
-pub fn lengths_fit(size: Size, words: usize, children: usize, trees: usize, cpus: usize) -> bool
-    ensures { result ≡ passes (lengths_of size words children trees cpus) }
-{
-    let huge = huge_frames(size) as usize;
-    if words != CHILD_WORDS * huge {
-        return false;
+    // Whether the tables have the lengths that the size asks for.
+    pub fn lengths_fit(self, words: usize, children: usize, trees: usize, cpus: usize) -> bool
+        ensures { result ≡ passes (lengths_of self words children trees cpus) }
+    {
+        let huge = self.huge_frames() as usize;
+        if words != CHILD_WORDS * huge {
+            return false;
+        }
+        if children != huge {
+            return false;
+        }
+        if trees != self.trees() as usize {
+            return false;
+        }
+        if cpus == 0 {
+            return false;
+        }
+        cpus <= MOST_CPUS
     }
-    if children != huge {
-        return false;
-    }
-    if trees != trees_of(size) as usize {
-        return false;
-    }
-    if cpus == 0 {
-        return false;
-    }
-    cpus <= MOST_CPUS
 }
 
 // ---- the header: identifier (16), format (4), marker (2), n (17), zero (25)
@@ -119,7 +121,7 @@ fn join_header(marker: u64, size: Size) -> u64
     requires { marker < 4 }
     ensures { result ≡ header_word marker (huge_of size) }
 {
-    IDENTIFIER << 48 | FORMAT << 44 | marker << 42 | (huge_frames(size) as u64) << 25
+    IDENTIFIER << 48 | FORMAT << 44 | marker << 42 | (size.huge_frames() as u64) << 25
 }
 
 #[derive(Clone, Copy)]
@@ -235,7 +237,7 @@ fn tree_says(size: Size, tree: Tree, word: u16) -> Option<TreeEntry>
     ensures { result ≡ tree_says (shape_of size) tree word }
 {
     let f = split_tree(word);
-    if capacity_of(size, tree) < f.count {
+    if size.capacity_of(tree) < f.count {
         return None;
     }
     Some(TreeEntry {
@@ -255,14 +257,16 @@ pub fn look_tree(trees: &[u16], size: Size, tree: Tree) -> Result<TreeEntry, Fau
     tree_says(size, tree, trees[at]).ok_or(Fault::Damaged)
 }
 
-// A count that the tree can have. One above the capacity is damaged.
-pub fn count_in(size: Size, tree: Tree, count: u32) -> Result<u16, Fault>
-    ensures { result ≡ count_in size tree count }
-{
-    if (capacity_of(size, tree) as u32) < count {
-        return Err(Fault::Damaged);
+impl Size {
+    // A count that the tree can have. One above the capacity is damaged.
+    pub fn count_in(self, tree: Tree, count: u32) -> Result<u16, Fault>
+        ensures { result ≡ count_in self tree count }
+    {
+        if (self.capacity_of(tree) as u32) < count {
+            return Err(Fault::Damaged);
+        }
+        Ok(count as u16)
     }
-    Ok(count as u16)
 }
 
 // Rule 1: the count is taken, leaving 0; r stays.
@@ -282,7 +286,7 @@ pub fn add_count(trees: &mut [u16], size: Size, tree: Tree, frames: u16) -> Resu
 {
     let at = tree.0 as usize;
     let TreeEntry { reserved, count } = look_tree(trees, size, tree)?;
-    let sum = count_in(size, tree, count as u32 + frames as u32)?;
+    let sum = size.count_in(tree, count as u32 + frames as u32)?;
     // rules 1 and 7, giving back: the tree's count rises, r stays
     trees[at] = join_tree(reserved, sum);
     Ok(())
@@ -294,7 +298,7 @@ pub fn unreserve(trees: &mut [u16], size: Size, tree: Tree, frames: u16) -> Resu
 {
     let at = tree.0 as usize;
     let TreeEntry { reserved: _, count } = look_tree(trees, size, tree)?;
-    let sum = count_in(size, tree, count as u32 + frames as u32)?;
+    let sum = size.count_in(tree, count as u32 + frames as u32)?;
     // rule 2: the hand to the tree's count, r clear
     trees[at] = join_tree(0, sum);
     Ok(())
@@ -322,22 +326,11 @@ fn fits_class(pass: Pass, count: u16) -> bool
     }
 }
 
-pub fn pass_tree(pass: Pass) -> Tree
-    ensures { result ≡ pass_tree pass }
-{
-    match pass {
-        Pass::Near { tree, base: _ } => tree,
-        Pass::Partial(tree) => tree,
-        Pass::Free(tree) => tree,
-        Pass::Any(tree) => tree,
-    }
-}
-
 // Rule 3: with r clear, a class that fits and a count of at least `frames`, r is set and the count taken.
 pub fn reserve(trees: &mut [u16], size: Size, pass: Pass, frames: u16) -> Result<Option<u16>, Fault>
     ensures { outcome result trees.new ≡ reserve_in size pass frames trees.old }
 {
-    let tree = pass_tree(pass);
+    let tree = pass.tree();
     let at = tree.0 as usize;
     let TreeEntry { reserved, count } = look_tree(trees, size, tree)?;
     if reserved != 0 {
@@ -360,7 +353,7 @@ pub fn take_with(trees: &mut [u16], size: Size, tree: Tree, hand: u16) -> Result
 {
     let at = tree.0 as usize;
     let TreeEntry { reserved, count } = look_tree(trees, size, tree)?;
-    let sum = count_in(size, tree, count as u32 + hand as u32)?;
+    let sum = size.count_in(tree, count as u32 + hand as u32)?;
     // rule 4: the tree's count into hand
     trees[at] = join_tree(reserved, 0);
     Ok(sum)
@@ -374,7 +367,7 @@ pub fn store_count(trees: &mut [u16], size: Size, tree: Tree, count: u32) -> Res
     if trees.len() <= at {
         return Err(Fault::NoEntry);
     }
-    let count = count_in(size, tree, count)?;
+    let count = size.count_in(tree, count)?;
     // create and open: a tree
     trees[at] = join_tree(0, count);
     Ok(())

@@ -15,10 +15,9 @@ ghost use Rattle.child_stages.specs.Tables.{lent_children};
 ghost use Rattle.get_runs.specs.Claims.{no_child, claims_in, claimed};
 ghost use Rattle.get_runs.specs.Stands.{standing, block_of, way_left};
 
-use begins::Getting;
 use calls::{Ended, Way};
 use cpu_entries::Claimed;
-use places::{BlockAt, Shape};
+use places::Shape;
 use rules::{
     Answer, Block, Fault, Frame, Huge, Order, Pass, Place, Record, Run, Taking, Took, Tree,
 };
@@ -117,7 +116,8 @@ fn goes(cpu: u8, stage: Taking, steps: u64) -> Way
     }
 }
 
-// How the run of a get goes on that stands so.
+// How the run of a get goes on that stands so. Compiled into its two callers: a call costs more instructions.
+#[inline(always)]
 fn way_left(cpu: u8, left: Left) -> Way
     ensures { result ≡ way_left cpu left }
 {
@@ -182,7 +182,7 @@ fn way_left(cpu: u8, left: Left) -> Way
     }
 }
 
-// Rule 6. Inlined, for the bar of a get and put in one call (D105).
+// Rule 6. Compiled into its caller: a call costs more instructions.
 #[inline(always)]
 fn last_on(
     header: &[u64],
@@ -207,18 +207,12 @@ fn last_on(
         return left;
     }
     let block = block_of(order, tree, child, first);
-    let Some(
-        BlockAt {
-            tree: held,
-            child: found,
-        },
-    ) = places::block_at(shape, block)
-    else {
+    let Some(lies) = shape.block_at(block) else {
         return left;
     };
-    match cpu_entries::set_start(cpus, shape.size, cpu as usize, held, found) {
+    match cpu_entries::set_start(cpus, shape.size, cpu as usize, lies.tree, lies.child) {
         Ok(_) => {
-            let end = places::first_of(block);
+            let end = block.first();
             taken(At::Done, order, tree, child, end, steps + 1)
         }
         Err(_) => left,
@@ -303,7 +297,7 @@ fn claim(
     ensures { outcome result children.new ≡ lent_children (shape_of shape) tree no_child (λ l. claims_in order l child) children.old }
 {
     match order {
-        Order::Run(run) => child_stages::claim(children, shape, tree, child, rules::frames_of(run)),
+        Order::Run(run) => child_stages::claim(children, shape, tree, child, run.frames()),
         Order::Nine => child_stages::take_huge(children, shape, tree, child),
     }
 }
@@ -326,7 +320,7 @@ fn child_on(
     requires { Opened shape cpu header.now words.old children.old trees.now cpus.now × Passes (taking_in (shape_of shape) cpu (Taking.Child order (Place.Own tree) start start)) }
     ensures { WentOn step fuel made (Record.Get cpu (Taking.Child order (Place.Own tree) start start)) (way_left cpu result) (zone header.now words.new children.new trees.now cpus.now) (zone header.now words.old children.old trees.now cpus.now) }
 {
-    let width = entries::children_of(shape.size, tree) as u8;
+    let width = shape.size.children_of(tree) as u8;
     let mut child = start;
     for steps in made..fuel {
         match claim(children, shape, order, tree, child) {
@@ -381,10 +375,10 @@ fn own_on(
     if fuel == 0 {
         return stands(At::Own, order, Tree(0), 0, 0, 0);
     }
-    match cpu_entries::claim_own(cpus, shape.size, cpu as usize, places::frames_of(order)) {
+    match cpu_entries::claim_own(cpus, shape.size, cpu as usize, order.frames()) {
         Ok(Claimed::Absent) => stands(At::Try, order, Tree(0), 0, 0, 1),
         Ok(Claimed::Claimed { tree, start }) => {
-            if places::search_in(shape, cpu, Place::Own(tree), start, start) {
+            if shape.search_in(cpu, Place::Own(tree), start, start) {
                 let left = child_on(
                     header, words, children, trees, cpus, shape, cpu, order, tree, start, 1, fuel,
                 );
@@ -450,17 +444,11 @@ pub fn get_run(
 {
     match begins::get_of(header, words, children, trees, cpus, cpu, order) {
         Err(answer) => calls::way_of(answer, 0),
-        Ok(
-            Getting {
-                shape,
-                cpu: own,
-                order: known,
-            },
-        ) => {
+        Ok(got) => {
             let left = own_on(
-                header, words, children, trees, cpus, shape, own, known, fuel,
+                header, words, children, trees, cpus, got.shape, got.cpu, got.order, fuel,
             );
-            way_left(own, left)
+            way_left(got.cpu, left)
         }
     }
 }

@@ -97,7 +97,7 @@ fn tree_formed(trees: &[u16], shape: Shape, tree: Tree) -> bool
 pub fn trees_formed(trees: &[u16], shape: Shape) -> bool
     ensures { result ≡ trees_formed_in shape trees.now }
 {
-    let n = entries::trees_of(shape.size);
+    let n = shape.size.trees();
     if trees.len() < n as usize {
         return false;
     }
@@ -158,7 +158,7 @@ pub fn child_count(children: &[u16], shape: Shape, tree: Tree) -> u32
     ensures { result ≡ child_count_in shape tree children.now }
 {
     let first = tree.0 as usize * TREE_CHILDREN;
-    let end = first + entries::children_of(shape.size, tree) as usize;
+    let end = first + shape.size.children_of(tree) as usize;
     if children.len() < end {
         return 0;
     }
@@ -170,7 +170,7 @@ pub fn part_formed(children: &[u16], shape: Shape, tree: Tree) -> bool
     ensures { result ≡ part_formed_in shape tree children.now }
 {
     let first = tree.0 as usize * TREE_CHILDREN;
-    let end = first + entries::children_of(shape.size, tree) as usize;
+    let end = first + shape.size.children_of(tree) as usize;
     if children.len() < end {
         return false;
     }
@@ -188,10 +188,10 @@ fn tree_settled(children: &[u16], trees: &[u16], cpus: &[u64], shape: Shape, tre
 pub fn trees_settled(children: &[u16], trees: &[u16], cpus: &[u64], shape: Shape) -> bool
     ensures { result ≡ trees_settled_in shape children.now trees.now cpus.now }
 {
-    if children.len() < entries::huge_frames(shape.size) as usize {
+    if children.len() < shape.size.huge_frames() as usize {
         return false;
     }
-    let n = entries::trees_of(shape.size);
+    let n = shape.size.trees();
     if trees.len() < n as usize {
         return false;
     }

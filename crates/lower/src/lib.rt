@@ -75,7 +75,7 @@ fn says(entry: u16) -> Option<ChildEntry>
 fn size_of(run: Run) -> u32
     ensures { (result ≡ run_size run) × (0 < result) × (result ≤ 64) }
 {
-    rules::frames_of(run) as u32
+    run.frames() as u32
 }
 
 // As many ones, the lowest bits of a word.
@@ -362,7 +362,7 @@ pub fn search(
     if words.len() / CHILD_WORDS < n {
         return Err(Fault::NoField);
     }
-    let size = rules::frames_of(run);
+    let size = run.frames();
     let mut found = None;
     let mut child = start;
     'children: for turn in 0..n {

@@ -34,7 +34,7 @@ fn check(
         Zoned::Running(size) => size,
         Zoned::Clean(size) => size,
     };
-    if entries::lengths_fit(size, words, children, trees, cpus) {
+    if size.lengths_fit(words, children, trees, cpus) {
         return Ok(zoned);
     }
     Err(Answer::BadBuffers)
@@ -95,7 +95,7 @@ fn recount(words: &[u64], children: &mut [u16], shape: Shape, huge: Huge) -> Ans
 {
     match lower::store_recount(children, words, huge.0 as usize) {
         Ok(()) => {
-            if huge.0 + 1 < entries::huge_frames(shape.size) {
+            if huge.0 + 1 < shape.size.huge_frames() {
                 return opening(Opening::Children(Huge(huge.0 + 1)));
             }
             opening(Opening::Trees(Tree(0)))
@@ -119,7 +119,7 @@ fn add_up(children: &[u16], trees: &mut [u16], shape: Shape, tree: Tree) -> Answ
         looks::child_count(children, shape, tree),
     ) {
         Ok(()) => {
-            if tree.0 + 1 < entries::trees_of(shape.size) {
+            if tree.0 + 1 < shape.size.trees() {
                 return opening(Opening::Trees(Tree(tree.0 + 1)));
             }
             opening(Opening::Cpus(0))
@@ -181,7 +181,7 @@ pub fn open_step(
             Record::Put { cpu: _, stage: _ } => Answer::BadRecord,
             Record::Create(_) => Answer::BadRecord,
             Record::Open(stage) => {
-                if places::opening_in(shape, stage) {
+                if shape.opening_in(stage) {
                     return open_stage(words, children, trees, cpus, shape, stage);
                 }
                 Answer::BadRecord
@@ -206,7 +206,7 @@ fn recount_on(
     requires { (checked header.now (length words.now) (length children.old) (length trees.now) (length cpus.now) ≡ Ok shape) × (first.0 < huge_of shape.size) }
     ensures { WentOn open_step fuel 0 (Record.Open (Opening.Children first)) result (zone header.now words.now children.new trees.now cpus.now) (zone header.now words.now children.old trees.now cpus.now) }
 {
-    let huge = entries::huge_frames(shape.size);
+    let huge = shape.size.huge_frames();
     let mut at = first.0;
     for steps in 0..fuel {
         if let Err(fault) = lower::store_recount(children, words, at as usize) {
@@ -246,7 +246,7 @@ fn way(
             trees.len(),
             cpus.len(),
         ) {
-            if first.0 < entries::huge_frames(shape.size) {
+            if first.0 < shape.size.huge_frames() {
                 return recount_on(header, words, children, trees, cpus, shape, first, fuel);
             }
         }

@@ -8,9 +8,8 @@ ghost use Rattle.rules.specs.Step.{step, follow};
 ghost use Rattle.calls.specs.Results.{zone, Opened, went_to, WentOn};
 ghost use Rattle.put_runs.specs.Stands.{steps_to_entry, ends_with, way_at, LiesAt, LiesIn};
 
-use begins::Putting;
 use calls::{Ended, Way};
-use places::{BlockAt, Shape};
+use places::Shape;
 use rules::{Answer, Block, Frame, Giving, Huge, Record, Run, Tree};
 
 const CHILD_FRAMES: u64 = 512;
@@ -52,7 +51,7 @@ fn ends(block: Block, steps: u64) -> Way
     ensures { result ≡ ends_with block steps }
 {
     Way::Ends(Ended {
-        answer: Answer::Done(places::first_of(block)),
+        answer: Answer::Done(block.first()),
         steps,
     })
 }
@@ -95,7 +94,7 @@ fn tree_on(
     if fuel <= steps {
         return At::ToTree;
     }
-    match entries::add_count(trees, shape.size, tree, places::block_frames(block)) {
+    match entries::add_count(trees, shape.size, tree, block.frames()) {
         Ok(()) => At::InTree,
         Err(_) => At::ToTree,
     }
@@ -121,13 +120,7 @@ fn entry_on(
     if fuel <= steps {
         return At::ToEntry;
     }
-    match cpu_entries::add_own(
-        cpus,
-        shape.size,
-        cpu as usize,
-        tree,
-        places::block_frames(block),
-    ) {
+    match cpu_entries::add_own(cpus, shape.size, cpu as usize, tree, block.frames()) {
         Ok(true) => At::InEntry,
         Ok(false) => tree_on(
             header,
@@ -167,7 +160,7 @@ fn raise_on(
     if fuel <= 1 {
         return At::Raise;
     }
-    match child_stages::give_count(children, shape, tree, child, rules::frames_of(run)) {
+    match child_stages::give_count(children, shape, tree, child, run.frames()) {
         Ok(()) => At::ToEntry,
         Err(_) => At::Raise,
     }
@@ -269,11 +262,11 @@ fn block_on(
     if fuel == 0 {
         return At::Clear;
     }
-    let Some(BlockAt { tree, child }) = places::block_at(shape, block) else {
+    let Some(lies) = shape.block_at(block) else {
         return At::Clear;
     };
     let at = cleared_on(
-        header, words, children, trees, cpus, shape, cpu, block, tree, child, fuel,
+        header, words, children, trees, cpus, shape, cpu, block, lies.tree, lies.child, fuel,
     );
     if let At::ToEntry = at {
         return entry_on(
@@ -285,7 +278,7 @@ fn block_on(
             shape,
             cpu,
             block,
-            tree,
+            lies.tree,
             steps_to_entry(block),
             fuel,
         );
@@ -343,17 +336,11 @@ pub fn put_run(
 {
     match begins::put_of(header, words, children, trees, cpus, cpu, frame, order) {
         Err(answer) => calls::way_of(answer, 0),
-        Ok(
-            Putting {
-                shape,
-                cpu: own,
-                block,
-            },
-        ) => {
+        Ok(put) => {
             let at = block_on(
-                header, words, children, trees, cpus, shape, own, block, fuel,
+                header, words, children, trees, cpus, put.shape, put.cpu, put.block, fuel,
             );
-            way_at(own, block, at)
+            way_at(put.cpu, put.block, at)
         }
     }
 }

@@ -257,7 +257,7 @@ fn order_number(order: Order) -> u8
     ensures { result ≡ order_number order }
 {
     match order {
-        Order::Run(run) => rules::order_of(run),
+        Order::Run(run) => run.order(),
         Order::Nine => 9,
     }
 }
@@ -275,7 +275,7 @@ fn block_order(block: Block) -> u8
     ensures { result ≡ block_order block }
 {
     match block {
-        Block::Run { run, first: _ } => rules::order_of(run),
+        Block::Run { run, first: _ } => run.order(),
         Block::Whole(_) => 9,
     }
 }

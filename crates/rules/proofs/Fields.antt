@@ -29,7 +29,7 @@ pub counts_entry : (x k : ℕ) → child_says x ≡ Some (ChildEntry.Counts k) �
 unfolding well_formed is_flagged count_in by_child
 counts_entry x k e = rw e (refl, refl, refl)
 
-pub flagged_entry : (x : ℕ) → child_says x ≡ (Some ChildEntry.Flagged) → (well_formed x ≡ true) × (is_flagged x ≡ true) × (count_in x ≡ 0)
+pub flagged_entry : (x : ℕ) → child_says x ≡ Some ChildEntry.Flagged → (well_formed x ≡ true) × (is_flagged x ≡ true) × (count_in x ≡ 0)
 unfolding well_formed is_flagged count_in by_child
 flagged_entry x e = rw e (refl, refl, refl)
 
@@ -54,7 +54,7 @@ count_few x = go (child_says x) refl
 -- a well-formed entry says one of two things
 pub data Says (x : ℕ) : Type 0 where
   counts : (k : ℕ) → child_says x ≡ Some (ChildEntry.Counts k) → Says x
-  flagged : child_says x ≡ (Some ChildEntry.Flagged) → Says x
+  flagged : child_says x ≡ Some ChildEntry.Flagged → Says x
 
 pub says : (x : ℕ) → well_formed x ≡ true → Says x
 unfolding well_formed by_child

@@ -49,7 +49,7 @@ unfolding by_tree
 tree_elim Q None x y = x refl
 tree_elim Q (Some e) x y = y e.reserved e.count refl
 
-pub child_elim : {A : Type 0} (Q : A → Type 0) (e : Option ChildEntry) {d a : A} {f : ℕ → A} → (e ≡ None → Q d) → ((k : ℕ) → e ≡ Some (ChildEntry.Counts k) → Q (f k)) → (e ≡ (Some ChildEntry.Flagged) → Q a) → Q (by_child e d f a)
+pub child_elim : {A : Type 0} (Q : A → Type 0) (e : Option ChildEntry) {d a : A} {f : ℕ → A} → (e ≡ None → Q d) → ((k : ℕ) → e ≡ Some (ChildEntry.Counts k) → Q (f k)) → (e ≡ Some ChildEntry.Flagged → Q a) → Q (by_child e d f a)
 unfolding by_child
 child_elim Q None x y w = x refl
 child_elim Q (Some (ChildEntry.Counts k)) x y w = y k refl

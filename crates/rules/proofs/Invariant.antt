@@ -268,7 +268,7 @@ module _ (n : ℕ) (z : Zone) (cs : ℕ → Cpu) (held lost : List Block) (u : U
 
   -- the clearing store of a huge frame
   pub unflag_kept : (t c : ℕ) (a : Answer) → let b : Block = Block.Whole (huge (t * per_tree g + c)) in let p : Plan = record { store = Store.child (t * per_tree g + c) (count_word child_frames); answer = a; mark = clears b } in
-      Fine p → handed (cs j).begun a ≡ [] → owned_by r ≡ b ∷ [] → owned_by (record_of a) ≡ [] → c < children_of g t → child_says (get_or cs₀ (t * per_tree g + c) 0) ≡ (Some ChildEntry.Flagged)
+      Fine p → handed (cs j).begun a ≡ [] → owned_by r ≡ b ∷ [] → owned_by (record_of a) ≡ [] → c < children_of g t → child_says (get_or cs₀ (t * per_tree g + c) 0) ≡ Some ChildEntry.Flagged
       → ((x : ℕ) → low_of g (record_of a) x ≡ low_of g r x) → ((y : ℕ) → owed g (record_of a) y ≡ owed g r y + at t child_frames y) → ((y : ℕ) → reserves r y ≡ reserves (record_of a) y)
       → Wanted (want (record_of a)) (entry_at g z.cpus j) → Keeps p
   unfolding stored base_of whole_of

@@ -67,7 +67,7 @@ count_again k h =
     let x : ℕ = join child_layout vs in
     rw (field_join child_layout vs 0 f, field_join child_layout vs 1 f, field_join child_layout vs 2 f) (pick_yes _ _ _ (passes_of (0 is 0 ∷ 0 is 0 ∷ k below suc child_frames ∷ []) (refl, (refl, (omega arith, tt)))))
 
-pub flagged_again : child_says flagged_word ≡ (Some ChildEntry.Flagged)
+pub flagged_again : child_says flagged_word ≡ Some ChildEntry.Flagged
 unfolding child_says flagged_word field split join width passes pick
 flagged_again = refl
 

@@ -27,7 +27,7 @@ pub claim_counts : (s x k : ℕ) → child_says x ≡ Some (ChildEntry.Counts k)
 unfolding claim by_child
 claim_counts s x k e = rw e refl
 
-pub claim_flagged : (s x : ℕ) → child_says x ≡ (Some ChildEntry.Flagged) → claim s x ≡ told (Ok Took.Passed)
+pub claim_flagged : (s x : ℕ) → child_says x ≡ Some ChildEntry.Flagged → claim s x ≡ told (Ok Took.Passed)
 unfolding claim by_child
 claim_flagged s x e = rw e refl
 
@@ -35,7 +35,7 @@ pub huge_counts : (x k : ℕ) → child_says x ≡ Some (ChildEntry.Counts k) �
 unfolding take_huge by_child
 huge_counts x k e = rw e refl
 
-pub huge_flagged : (x : ℕ) → child_says x ≡ (Some ChildEntry.Flagged) → take_huge x ≡ told (Ok Took.Passed)
+pub huge_flagged : (x : ℕ) → child_says x ≡ Some ChildEntry.Flagged → take_huge x ≡ told (Ok Took.Passed)
 unfolding take_huge by_child
 huge_flagged x e = rw e refl
 
@@ -43,7 +43,7 @@ pub give_counts : (s x k : ℕ) → child_says x ≡ Some (ChildEntry.Counts k) 
 unfolding give_count by_child
 give_counts s x k e h = rw e (pick_yes _ _ _ (le-leb (k + s) child_frames h))
 
-pub clear_flagged : (x : ℕ) → child_says x ≡ (Some ChildEntry.Flagged) → clear_huge x ≡ changed (Ok tt) (count_word child_frames)
+pub clear_flagged : (x : ℕ) → child_says x ≡ Some ChildEntry.Flagged → clear_huge x ≡ changed (Ok tt) (count_word child_frames)
 unfolding clear_huge by_child
 clear_flagged x e = rw e refl
 

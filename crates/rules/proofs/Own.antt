@@ -48,7 +48,7 @@ pub record Owned (n : ℕ) (cs ws : List ℕ) (low base whole : ℕ → ℕ) : T
 -- ---- one child, by what its entry x says: over a field with z zero bits, l of them under way, and w owners of the child as a whole
 data Child (x z l w : ℕ) : Type 0 where
   counted : (k : ℕ) → child_says x ≡ Some (ChildEntry.Counts k) → k + l ≡ z → w ≡ 0 → Child x z l w
-  taken : child_says x ≡ (Some ChildEntry.Flagged) → l ≡ 0 → z ≡ child_frames → w ≡ 1 → Child x z l w
+  taken : child_says x ≡ Some ChildEntry.Flagged → l ≡ 0 → z ≡ child_frames → w ≡ 1 → Child x z l w
 
 known : {x z l w : ℕ} → Child x z l w → (well_formed x ≡ true) × (count_in x + l ≡ pick (is_flagged x) 0 z) × (pick {A = ℕ} (is_flagged x) 1 0 ≡ 1 → z ≡ child_frames) × (pick (is_flagged x) 1 0 ≡ w)
 unfolding pick
@@ -92,7 +92,7 @@ module _ (n : ℕ) (cs ws : List ℕ) (low base whole : ℕ → ℕ) (o : Owned 
   unfolding free_of pick
   when_counts c k h e = let f = counts_entry _ k e in (rw (f.1, f.2) at (o.counts c h), sym (rw f.1 at (o.flags c h)))
 
-  when_flagged : (c : ℕ) → c < n → child_says (get_or cs c 0) ≡ (Some ChildEntry.Flagged) → (low c ≡ 0) × (zero_bits ws c ≡ child_frames) × (whole c ≡ 1)
+  when_flagged : (c : ℕ) → c < n → child_says (get_or cs c 0) ≡ Some ChildEntry.Flagged → (low c ≡ 0) × (zero_bits ws c ≡ child_frames) × (whole c ≡ 1)
   unfolding free_of pick
   when_flagged c h e = let f = flagged_entry _ e in (omega (arith, rw (f.1, f.2) at (o.counts c h)), o.empty c h (rw f.1 refl), sym (rw f.1 at (o.flags c h)))
 
@@ -147,7 +147,7 @@ module _ (n : ℕ) (cs ws : List ℕ) (low base whole : ℕ → ℕ) (o : Owned 
       (λ x m. (refl, omega (arith, q x, at_other c 1 x m)))
 
   -- a flagged child becomes wholly free: the clearing store of a huge frame
-  pub flag_cleared : (c : ℕ) (whole' : ℕ → ℕ) → c < n → child_says (get_or cs c 0) ≡ (Some ChildEntry.Flagged)
+  pub flag_cleared : (c : ℕ) (whole' : ℕ → ℕ) → c < n → child_says (get_or cs c 0) ≡ Some ChildEntry.Flagged
       → ((x : ℕ) → whole' x + at c 1 x ≡ whole x) → Owned n (set cs c (count_word child_frames)) ws low base whole'
   flag_cleared c whole' h e q =
       let p = when_flagged c h e in
@@ -189,7 +189,7 @@ module _ (n : ℕ) (cs ws : List ℕ) (low base whole : ℕ → ℕ) (o : Owned 
       (rw ((counts_entry _ child_frames e).1, (flagged_entry _ flagged_again).1) (omega (arith, at_same c child_frames)))
       (λ x m. omega (arith, at_other c child_frames x m))
 
-  pub unflag_free : (c : ℕ) → c < n → child_says (get_or cs c 0) ≡ (Some ChildEntry.Flagged) → (x : ℕ) → free_of (set cs c (count_word child_frames)) ws x ≡ free_of cs ws x + at c child_frames x
+  pub unflag_free : (c : ℕ) → c < n → child_says (get_or cs c 0) ≡ Some ChildEntry.Flagged → (x : ℕ) → free_of (set cs c (count_word child_frames)) ws x ≡ free_of cs ws x + at c child_frames x
   unfolding free_of pick
   unflag_free c h e =
       let p = when_flagged c h e in
@@ -225,7 +225,7 @@ module _ (n : ℕ) (cs ws : List ℕ) (low base whole : ℕ → ℕ) (o : Owned 
   pub base_bit : (f : ℕ) → f < child_frames * n → base f ≡ 1 → bit_at ws f ≡ 1
   base_bit f h e = o.bits f h ∙ e
 
-  pub whole_flag : (c : ℕ) → c < n → whole c ≡ 1 → child_says (get_or cs c 0) ≡ (Some ChildEntry.Flagged)
+  pub whole_flag : (c : ℕ) → c < n → whole c ≡ 1 → child_says (get_or cs c 0) ≡ Some ChildEntry.Flagged
   whole_flag c h e = elim (child c h) [
     | counted k f p q ↦ absurd (omega arith)
     | taken f p q r ↦ f

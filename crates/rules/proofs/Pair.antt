@@ -29,7 +29,7 @@ both P p q zero h = p
 both P p q (suc zero) h = q
 both P p q (suc (suc c)) h = absurd (omega arith)
 
-says : (child_says (count_word 512) ≡ Some (ChildEntry.Counts 512)) × (child_says (count_word 511) ≡ Some (ChildEntry.Counts 511)) × (child_says flagged_word ≡ (Some ChildEntry.Flagged))
+says : (child_says (count_word 512) ≡ Some (ChildEntry.Counts 512)) × (child_says (count_word 511) ≡ Some (ChildEntry.Counts 511)) × (child_says flagged_word ≡ Some ChildEntry.Flagged)
 unfolding by_computation
 says = (refl, refl, refl)
 
@@ -108,7 +108,7 @@ unfolding by_computation free_of at
 under_way = low_clear _ _ _ _ _ _ claimed 0 (omega arith) (omega arith)
 
 -- frame 0's owner has its bit, child 1's owner its flag
-pub held : (bit_at (words 1) 0 ≡ 1) × (child_says flagged_word ≡ (Some ChildEntry.Flagged))
+pub held : (bit_at (words 1) 0 ≡ 1) × (child_says flagged_word ≡ Some ChildEntry.Flagged)
 unfolding run at pick
 held = (base_bit _ _ _ _ _ _ taken 0 (omega arith) refl, whole_flag _ _ _ _ _ _ taken 1 (omega arith) refl)
 

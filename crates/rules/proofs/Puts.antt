@@ -170,7 +170,7 @@ module _ (n : ℕ) (z : Zone) (cs : ℕ → Cpu) (held lost : List Block) (u : U
       let x : ℕ = get_or z.children i 0 in
       let once = owned_once n z.children z.words _ _ (owned_survived n z.children z.words _ _ _ u.lower) (child_frames * i) (omega arith) in
       let one : weighs (whole_of i) held lost (length z.cpus) cs ≡ 1 = omega (arith, weighs_own s e (whole_of i), ap (λ k. at k 1 i) q.2, at_same i 1, rw (whole_of_lem i) at once) in
-      let f : child_says x ≡ (Some ChildEntry.Flagged) = whole_flag n z.children z.words _ _ _ u.lower i inside one in
+      let f : child_says x ≡ Some ChildEntry.Flagged = whole_flag n z.children z.words _ _ _ u.lower i inside one in
       read_child n z cs held lost u (Kept s e) t c _ q.1 (rw (clear_flagged x f, given_plan g t c (count_word child_frames) (put g j (Giving.ToEntry b)) (clears b))
       (subst (λ (y : Huge). Kept s e (record { store = Store.child i (count_word child_frames); answer = put g j (Giving.ToEntry b); mark = clears (Block.Whole y) })) same
       (unflag_kept n z cs held lost u j l _ e t.0 c _ (fine_clears s e _ _ (Giving.ToEntry b) (proper s e) refl) (handed_none s e _) (ap (λ y. Block.Whole y ∷ []) (sym same)) refl q.1 f (λ y. refl) (λ y. sym (zero-add _)) (λ y. refl) tt)))

@@ -62,9 +62,9 @@ recount_same : (k x : ℕ) → x < 2 ^ 16 → ((i : ℕ) → child_says x ≡ So
 unfolding recount
 recount_same k x l h = child_elim (λ y. y ≡ x) (child_says x) (λ e. refl) (λ i e. rw (← (h i e)) (word_of_lem x i l e)) (λ e. refl)
 
-flagged_says : (x : ℕ) → is_flagged x ≡ true → child_says x ≡ (Some ChildEntry.Flagged)
+flagged_says : (x : ℕ) → is_flagged x ≡ true → child_says x ≡ Some ChildEntry.Flagged
 unfolding is_flagged
-flagged_says x = child_elim (λ b. b ≡ true → child_says x ≡ (Some ChildEntry.Flagged)) (child_says x) (λ e q. true_false (sym q)) (λ k e q. true_false (sym q)) (λ e q. e)
+flagged_says x = child_elim (λ b. b ≡ true → child_says x ≡ Some ChildEntry.Flagged) (child_says x) (λ e q. true_false (sym q)) (λ k e q. true_false (sym q)) (λ e q. e)
 
 -- ---- open to its end
 

@@ -51,10 +51,10 @@ count_clash e r k p q = let z : ◌≡◌ {A = ℕ} 0 1 = cc in absurd (omega ar
 count_no : (x k : ℕ) → child_says x ≡ Some (ChildEntry.Counts k) → child_says x ≡ None → ⊥
 count_no x k p q = let z : ◌≡◌ {A = ℕ} 0 1 = cc in absurd (omega arith)
 
-flag_no : (x : ℕ) → child_says x ≡ (Some ChildEntry.Flagged) → child_says x ≡ None → ⊥
+flag_no : (x : ℕ) → child_says x ≡ Some ChildEntry.Flagged → child_says x ≡ None → ⊥
 flag_no x p q = let z : ◌≡◌ {A = ℕ} 0 1 = cc in absurd (omega arith)
 
-count_flag : (x k : ℕ) → child_says x ≡ Some (ChildEntry.Counts k) → child_says x ≡ (Some ChildEntry.Flagged) → ⊥
+count_flag : (x k : ℕ) → child_says x ≡ Some (ChildEntry.Counts k) → child_says x ≡ Some ChildEntry.Flagged → ⊥
 count_flag x k p q = let z : ◌≡◌ {A = ℕ} 0 1 = cc in absurd (omega arith)
 
 module _ (g : Shape) (z : Zone) (r : Record) where
@@ -135,7 +135,7 @@ module _ (g : Shape) (z : Zone) (r : Record) where
 
   -- a count given back
   told_give : (t : Tree) (c x s : ℕ) (a : Answer) (m : Mark) → number a ≡ 1 → (child_says x ≡ None → Damage g z r)
-      → (child_says x ≡ (Some ChildEntry.Flagged) → Damage g z r) → ((k : ℕ) → child_says x ≡ Some (ChildEntry.Counts k) → child_frames < k + s → Damage g z r)
+      → (child_says x ≡ Some ChildEntry.Flagged → Damage g z r) → ((k : ℕ) → child_says x ≡ Some (ChildEntry.Counts k) → child_frames < k + s → Damage g z r)
       → ((k : ℕ) → child_says x ≡ Some (ChildEntry.Counts k) → k + s ≤ child_frames → Damage g z r → ⊥) → (NotTaken g z r → ⊥) → Told (to_child g t c (on_gave (give_count s x) a m))
   unfolding give_count to_child by_change by_gave
   told_give t c x s a m ea d f o u n =
@@ -147,7 +147,7 @@ module _ (g : Shape) (z : Zone) (r : Record) where
 
   -- a huge frame cleared
   told_clear_huge : (t : Tree) (c x : ℕ) (a : Answer) (m : Mark) → number a ≡ 1 → (child_says x ≡ None → Damage g z r)
-      → ((child_says x ≡ None → ⊥) → Damage g z r → ⊥) → ((k : ℕ) → child_says x ≡ Some (ChildEntry.Counts k) → NotTaken g z r) → (child_says x ≡ (Some ChildEntry.Flagged) → NotTaken g z r → ⊥)
+      → ((child_says x ≡ None → ⊥) → Damage g z r → ⊥) → ((k : ℕ) → child_says x ≡ Some (ChildEntry.Counts k) → NotTaken g z r) → (child_says x ≡ Some ChildEntry.Flagged → NotTaken g z r → ⊥)
       → Told (to_child g t c (on_gave (clear_huge x) a m))
   unfolding clear_huge to_child by_change by_gave
   told_clear_huge t c x a m ea d s n f =

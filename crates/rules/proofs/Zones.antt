@@ -40,11 +40,11 @@ formed_is x = go (child_says x)
     go (Some (ChildEntry.Counts k)) = record { when_true = λ q. true_false (sym q); when_false = λ q h. let z : ◌≡◌ {A = ℕ} 0 1 = cc in omega arith }
     go (Some ChildEntry.Flagged) = record { when_true = λ q. true_false (sym q); when_false = λ q h. let z : ◌≡◌ {A = ℕ} 0 1 = cc in omega arith }
 
-flag_is : (x : ℕ) (b : Bool) (P : Type 0) → Decides (not b) P → Decides (not (pick (is_flagged x) b true)) ((child_says x ≡ (Some ChildEntry.Flagged)) × P)
+flag_is : (x : ℕ) (b : Bool) (P : Type 0) → Decides (not b) P → Decides (not (pick (is_flagged x) b true)) ((child_says x ≡ Some ChildEntry.Flagged) × P)
 unfolding is_flagged by_child pick
 flag_is x b P d = go (child_says x)
   where
-    go : (e : Option ChildEntry) → Decides (not (pick (by_child e false (λ k. false) true) b true)) ((e ≡ (Some ChildEntry.Flagged)) × P)
+    go : (e : Option ChildEntry) → Decides (not (pick (by_child e false (λ k. false) true) b true)) ((e ≡ Some ChildEntry.Flagged) × P)
     go None = record { when_true = λ q. true_false (sym q); when_false = λ q h. let z : ◌≡◌ {A = ℕ} 0 1 = cc h.0 in omega arith }
     go (Some (ChildEntry.Counts k)) = record { when_true = λ q. true_false (sym q); when_false = λ q h. let z : ◌≡◌ {A = ℕ} 0 1 = cc h.0 in omega arith }
     go (Some ChildEntry.Flagged) = record { when_true = λ q. (refl, d.when_true q); when_false = λ q h. d.when_false q h.1 }
@@ -127,7 +127,7 @@ module _ (n : ℕ) (z : Zone) where
   pub fields_are : Decides (not (flags_empty g z)) (BadField n z)
   unfolding flags_empty
   fields_are = decides_iff _ _ _ (λ h. (h.0, h.1, h.2.0, h.2.1)) (λ h. (h.0, h.1, (h.2, h.3)))
-      (decides_some n _ (λ i. (child z i ≡ (Some ChildEntry.Flagged)) × ((f : ℕ) × (f < 512) × (taken z (512 * i + f) ≡ 1))) (λ i l. rw (at_child i l) (flag_is (get_or z.children i 0) (empty_at g z (huge i)) _ (field_is i l))))
+      (decides_some n _ (λ i. (child z i ≡ Some ChildEntry.Flagged) × ((f : ℕ) × (f < 512) × (taken z (512 * i + f) ≡ 1))) (λ i l. rw (at_child i l) (flag_is (get_or z.children i 0) (empty_at g z (huge i)) _ (field_is i l))))
 
   pub trees_are : Decides (not (trees_formed g z)) (BadTree n z)
   unfolding trees_formed trees_of

@@ -46,7 +46,7 @@ pub record Layouts : Type 0 where
   pub running : (n : ℕ) → 0 < n → n ≤ most_huge → header_says (header_word running n) ≡ Some (Header.Running n)
   pub clean : (n : ℕ) → 0 < n → n ≤ most_huge → header_says (header_word clean n) ≡ Some (Header.Clean n)
   pub counts : (k : ℕ) → k ≤ child_frames → child_says (count_word k) ≡ Some (ChildEntry.Counts k)
-  pub flagged : child_says flagged_word ≡ (Some ChildEntry.Flagged)
+  pub flagged : child_says flagged_word ≡ Some ChildEntry.Flagged
   pub tallies : (g : Shape) (t : Tree) (r k : ℕ) → Sound g.format → r < 2 → k ≤ capacity g t.0 → tree_says g t (tree_word r k) ≡ Some (tallied r k)
   pub holds : (g : Shape) (t : Tree) (s k : ℕ) → Sound g.format → g.huge ≤ most_huge → Passes (holds_checks g t s k) → cpu_says g (cpu_word g.format (CpuEntry.Holds t s k)) ≡ Some (CpuEntry.Holds t s k)
   pub absent : (g : Shape) → cpu_says g (cpu_word g.format CpuEntry.Absent) ≡ Some CpuEntry.Absent

@@ -127,7 +127,7 @@ module _ (g : Shape) (z : Zone) where
 
   -- a count that would pass 512, or rise with a set
   abbrev pub ChildPasses : ℕ → ℕ → Type 0
-  ChildPasses i s = (child z i ≡ (Some ChildEntry.Flagged)) ⊎ ((k : ℕ) × (child z i ≡ Some (ChildEntry.Counts k)) × (512 < k + s))
+  ChildPasses i s = (child z i ≡ Some ChildEntry.Flagged) ⊎ ((k : ℕ) × (child z i ≡ Some (ChildEntry.Counts k)) × (512 < k + s))
 
   abbrev pub taking_reads : ℕ → Taking → Reads
   taking_reads j (Taking.Own o) = cpu_at j
@@ -246,7 +246,7 @@ module _ (n : ℕ) (z : Zone) where
   BadChild = (i : ℕ) × (i < n) × (child z i ≡ None)
 
   abbrev pub BadField : Type 0
-  BadField = (i : ℕ) × (i < n) × (child z i ≡ (Some ChildEntry.Flagged)) × ((f : ℕ) × (f < 512) × (taken z (512 * i + f) ≡ 1))
+  BadField = (i : ℕ) × (i < n) × (child z i ≡ Some ChildEntry.Flagged) × ((f : ℕ) × (f < 512) × (taken z (512 * i + f) ≡ 1))
 
   abbrev pub BadTree : Type 0
   BadTree = (t : ℕ) × (t < trees_in n) × (tree_entry_at (shaped n z) z (tree t) ≡ None)

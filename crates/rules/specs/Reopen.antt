@@ -41,7 +41,7 @@ cut_to z ts cs = record { header = z.header; words = z.words; children = z.child
 pub record True (z : Zone) : Type 0 where
   pub small : (c : ℕ) → c < (shape_of z).huge → get_or z.children c 0 < 2 ^ 16
   pub counts : (c : ℕ) → c < (shape_of z).huge → (k : ℕ) → child_says (child_at (shape_of z) z (huge c)) ≡ Some (ChildEntry.Counts k) → k ≡ zeros_at (shape_of z) z (huge c)
-  pub fields : (c : ℕ) → c < (shape_of z).huge → child_says (child_at (shape_of z) z (huge c)) ≡ (Some ChildEntry.Flagged) → empty_at (shape_of z) z (huge c) ≡ true
+  pub fields : (c : ℕ) → c < (shape_of z).huge → child_says (child_at (shape_of z) z (huge c)) ≡ Some ChildEntry.Flagged → empty_at (shape_of z) z (huge c) ≡ true
 
 -- the two zones agree but for the number of their CPUs
 pub record SameBut (y z : Zone) : Type 0 where

@@ -4,7 +4,8 @@
 ghost use Rattle.std.specs.Prelude.{◌≡◌};
 ghost use Rattle.rules.specs.Numbers.{format1};
 ghost use Rattle.rules.specs.Conversions.{first_frame, huge_at, first_huge, tree_at};
-ghost use Rattle.rules.specs.Blocks.{exponent, run_size};
+ghost use Rattle.rules.specs.Blocks.{exponent, run_size, size, size_of, first_of};
+ghost use Rattle.rules.specs.Places.{pass_tree, found_tree, place_tree};
 ghost use Rattle.rules.specs.Begin.{run_of};
 ghost use Rattle.rules.specs.Answers.{answer_of};
 
@@ -19,41 +20,47 @@ pub struct Huge(pub u32);
 #[derive(Clone, Copy, PartialEq, Eq)]
 pub struct Tree(pub u16);
 
-// A huge frame's first frame.
-pub fn first_frame(huge: Huge) -> Frame
-    ensures { result ≡ first_frame huge }
-{
-    Frame(huge.0 as u64 * 512)
-}
+impl Huge {
+    // A huge frame's first frame.
+    pub fn first_frame(self) -> Frame
+        ensures { result ≡ first_frame self }
+    {
+        Frame(self.0 as u64 * 512)
+    }
 
-// The huge frame that a frame lies in; none, where the number passes every huge frame's.
-pub fn huge_of(frame: Frame) -> Option<Huge>
-    ensures { result ≡ huge_at frame }
-{
-    let huge = frame.0 / 512;
-    if huge < 0x1_0000_0000 {
-        Some(Huge(huge as u32))
-    } else {
-        None
+    // The tree that a huge frame belongs to; none, where the number passes every tree's.
+    pub fn tree(self) -> Option<Tree>
+        ensures { result ≡ tree_at format1 self }
+    {
+        let tree = self.0 / 32;
+        if tree < 0x1_0000 {
+            Some(Tree(tree as u16))
+        } else {
+            None
+        }
     }
 }
 
-// A tree's first huge frame.
-pub fn first_huge(tree: Tree) -> Huge
-    ensures { result ≡ first_huge format1 tree }
-{
-    Huge(tree.0 as u32 * 32)
+impl Frame {
+    // The huge frame that a frame lies in; none, where the number passes every huge frame's.
+    pub fn huge(self) -> Option<Huge>
+        ensures { result ≡ huge_at self }
+    {
+        let huge = self.0 / 512;
+        if huge < 0x1_0000_0000 {
+            Some(Huge(huge as u32))
+        } else {
+            None
+        }
+    }
 }
 
-// The tree that a huge frame belongs to; none, where the number passes every tree's.
-pub fn tree_of(huge: Huge) -> Option<Tree>
-    ensures { result ≡ tree_at format1 huge }
-{
-    let tree = huge.0 / 32;
-    if tree < 0x1_0000 {
-        Some(Tree(tree as u16))
-    } else {
-        None
+impl Tree {
+    // A tree's first huge frame.
+    pub fn first_huge(self) -> Huge
+        ensures { result ≡ first_huge format1 self }
+    {
+        Huge(self.0 as u32 * 32)
     }
 }
 
@@ -71,33 +78,35 @@ pub enum Run {
     SixtyFour,
 }
 
-// The frames of a run.
-pub fn frames_of(run: Run) -> u16
-    ensures { result ≡ run_size run }
-{
-    match run {
-        Run::One => 1,
-        Run::Two => 2,
-        Run::Four => 4,
-        Run::Eight => 8,
-        Run::Sixteen => 16,
-        Run::ThirtyTwo => 32,
-        Run::SixtyFour => 64,
+impl Run {
+    // The frames of a run.
+    pub fn frames(self) -> u16
+        ensures { result ≡ run_size self }
+    {
+        match self {
+            Run::One => 1,
+            Run::Two => 2,
+            Run::Four => 4,
+            Run::Eight => 8,
+            Run::Sixteen => 16,
+            Run::ThirtyTwo => 32,
+            Run::SixtyFour => 64,
+        }
     }
-}
 
-// Its order, 0 to 6; and the run of an order.
-pub fn order_of(run: Run) -> u8
-    ensures { result ≡ exponent run }
-{
-    match run {
-        Run::One => 0,
-        Run::Two => 1,
-        Run::Four => 2,
-        Run::Eight => 3,
-        Run::Sixteen => 4,
-        Run::ThirtyTwo => 5,
-        Run::SixtyFour => 6,
+    // Its order, 0 to 6; and the run of an order.
+    pub fn order(self) -> u8
+        ensures { result ≡ exponent self }
+    {
+        match self {
+            Run::One => 0,
+            Run::Two => 1,
+            Run::Four => 2,
+            Run::Eight => 3,
+            Run::Sixteen => 4,
+            Run::ThirtyTwo => 5,
+            Run::SixtyFour => 6,
+        }
     }
 }
 
@@ -121,11 +130,43 @@ pub enum Order {
     Nine,
 }
 
+impl Order {
+    // The frames of a block of an order.
+    pub fn frames(self) -> u16
+        ensures { result ≡ size self }
+    {
+        match self {
+            Order::Run(run) => run.frames(),
+            Order::Nine => 512,
+        }
+    }
+}
+
 // A run is named by its first frame, a block of order 9 by its huge frame.
 #[derive(Clone, Copy)]
 pub enum Block {
     Run { run: Run, first: Frame },
     Whole(Huge),
+}
+
+impl Block {
+    pub fn first(self) -> Frame
+        ensures { result ≡ first_of self }
+    {
+        match self {
+            Block::Run { run: _, first } => first,
+            Block::Whole(huge) => huge.first_frame(),
+        }
+    }
+
+    pub fn frames(self) -> u16
+        ensures { result ≡ size_of self }
+    {
+        match self {
+            Block::Run { run, first: _ } => run.frames(),
+            Block::Whole(_) => 512,
+        }
+    }
 }
 
 // ---- what packed entries say; a malformed one says nothing
@@ -187,6 +228,19 @@ pub enum Pass {
     Any(Tree),
 }
 
+impl Pass {
+    pub fn tree(self) -> Tree
+        ensures { result ≡ pass_tree self }
+    {
+        match self {
+            Pass::Near { tree, base: _ } => tree,
+            Pass::Partial(tree) => tree,
+            Pass::Free(tree) => tree,
+            Pass::Any(tree) => tree,
+        }
+    }
+}
+
 // A tree that a pass has taken, or one that was stolen from a CPU.
 #[derive(Clone, Copy)]
 pub enum Found {
@@ -194,10 +248,32 @@ pub enum Found {
     Steal { from: u8, tree: Tree },
 }
 
+impl Found {
+    pub fn tree(self) -> Tree
+        ensures { result ≡ found_tree self }
+    {
+        match self {
+            Found::Pass(pass) => pass.tree(),
+            Found::Steal { from: _, tree } => tree,
+        }
+    }
+}
+
 #[derive(Clone, Copy)]
 pub enum Place {
     Own(Tree),
     Found(Found),
+}
+
+impl Place {
+    pub fn tree(self) -> Tree
+        ensures { result ≡ place_tree self }
+    {
+        match self {
+            Place::Own(tree) => tree,
+            Place::Found(found) => found.tree(),
+        }
+    }
 }
 
 // ---- operation records: one variant a stage, with what that stage needs

@@ -56,23 +56,15 @@ pub fn unreserve(
 ) -> Answer
     ensures { outcome result trees.new ≡ in_trees (shape_of shape) (take (shape_of shape) cpu (Taking.Unreserve order place hand)) trees.old }
 {
-    let said = entries::unreserve(trees, shape.size, places::place_tree(place), hand);
-    lending::given_answer(
-        calls::get(cpu, places::after_place(shape, cpu, order, place)),
-        said,
-    )
+    let said = entries::unreserve(trees, shape.size, place.tree(), hand);
+    lending::given_answer(calls::get(cpu, shape.after_place(cpu, order, place)), said)
 }
 
 // Rule 7: the failed claim to the tree's count.
 pub fn fail(trees: &mut [u16], shape: Shape, cpu: u8, order: Order, place: Place) -> Answer
     ensures { outcome result trees.new ≡ in_trees (shape_of shape) (take (shape_of shape) cpu (Taking.Fail order place)) trees.old }
 {
-    let said = entries::add_count(
-        trees,
-        shape.size,
-        places::place_tree(place),
-        places::frames_of(order),
-    );
+    let said = entries::add_count(trees, shape.size, place.tree(), order.frames());
     lending::given_answer(calls::get(cpu, Taking::Release { order, place }), said)
 }
 
@@ -94,7 +86,7 @@ fn try_answer(
                 hand,
             },
         ),
-        Ok(None) => calls::get(cpu, places::after_pass(shape, cpu, order, pass)),
+        Ok(None) => calls::get(cpu, shape.after_pass(cpu, order, pass)),
         Err(fault) => Answer::from(fault),
     }
 }
@@ -103,7 +95,7 @@ fn try_answer(
 pub fn try_tree(trees: &mut [u16], shape: Shape, cpu: u8, order: Order, pass: Pass) -> Answer
     ensures { outcome result trees.new ≡ in_trees (shape_of shape) (take (shape_of shape) cpu (Taking.Try order pass)) trees.old }
 {
-    let said = entries::reserve(trees, shape.size, pass, places::frames_of(order));
+    let said = entries::reserve(trees, shape.size, pass, order.frames());
     try_answer(shape, cpu, order, pass, said)
 }
 
@@ -120,7 +112,7 @@ fn steal_count_answer(
     match said {
         Ok(hand) => {
             let found = Found::Steal { from, tree };
-            if hand < places::frames_of(order) {
+            if hand < order.frames() {
                 return calls::get(
                     cpu,
                     Taking::Unreserve {
@@ -156,11 +148,11 @@ pub fn steal_count(
 pub fn to_tree(trees: &mut [u16], shape: Shape, cpu: u8, block: Block) -> Answer
     ensures { outcome result trees.new ≡ ranged (shape_of shape) block (in_trees (shape_of shape) (give (shape_of shape) cpu (Giving.ToTree block))) trees.old }
 {
-    match places::block_at(shape, block) {
+    match shape.block_at(block) {
         None => Answer::BadRecord,
         Some(at) => {
-            let said = entries::add_count(trees, shape.size, at.tree, places::block_frames(block));
-            lending::given_answer(Answer::Done(places::first_of(block)), said)
+            let said = entries::add_count(trees, shape.size, at.tree, block.frames());
+            lending::given_answer(Answer::Done(block.first()), said)
         }
     }
 }

@@ -129,7 +129,7 @@ pub fn step(
                 if shape.cpus <= cpu {
                     return Answer::BadRecord;
                 }
-                if places::taking_in(shape, cpu, stage) {
+                if shape.taking_in(cpu, stage) {
                     return get_step(words, children, trees, cpus, shape, cpu, stage);
                 }
                 Answer::BadRecord
@@ -138,7 +138,7 @@ pub fn step(
                 if shape.cpus <= cpu {
                     return Answer::BadRecord;
                 }
-                if places::giving_in(shape, stage) {
+                if shape.giving_in(stage) {
                     return put_step(words, children, trees, cpus, shape, cpu, stage);
                 }
                 Answer::BadRecord

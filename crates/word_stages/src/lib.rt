@@ -39,7 +39,7 @@ fn lent<R, F: FnOnce(&mut [u64]) -> Result<R, Fault>>(
     ensures { LentTo (shape_of shape) tree (Err Fault.NoChild) (FnOnceReturnsAtMut F.FnOnce f) words.old (outcome result words.new) }
 {
     let first = CHILD_WORDS * (tree.0 as usize * TREE_CHILDREN);
-    let end = first + CHILD_WORDS * entries::children_of(shape.size, tree) as usize;
+    let end = first + CHILD_WORDS * shape.size.children_of(tree) as usize;
     if words.len() < end {
         return Err(Fault::NoChild);
     }
@@ -109,7 +109,7 @@ fn word_answer(
             cpu,
             Taking::Last(Block::Run {
                 run,
-                first: frame_at(shape, places::place_tree(place), child, word, bit),
+                first: frame_at(shape, place.tree(), child, word, bit),
             }),
         ),
         Ok(None) if word < LAST_WORD => calls::get(
@@ -150,7 +150,7 @@ pub fn word(
 ) -> Answer
     ensures { outcome result words.new ≡ eighth word (in_words (shape_of shape) (take (shape_of shape) cpu (Taking.Word run place start child word))) words.old }
 {
-    let said = take_run(words, shape, places::place_tree(place), child, word, run);
+    let said = take_run(words, shape, place.tree(), child, word, run);
     word_answer(shape, cpu, run, place, start, child, word, said)
 }
 
@@ -160,7 +160,7 @@ pub fn word(
 pub fn clear(words: &mut [u64], shape: Shape, cpu: u8, run: Run, first: Frame) -> Answer
     ensures { outcome result words.new ≡ ranged (shape_of shape) (Block.Run run first) (in_words (shape_of shape) (give (shape_of shape) cpu (Giving.Clear (Block.Run run first)))) words.old }
 {
-    match places::block_at(shape, Block::Run { run, first }) {
+    match shape.block_at(Block::Run { run, first }) {
         None => Answer::BadRecord,
         Some(at) => {
             let word = (first.0 % CHILD_FRAMES / WORD_BITS) as usize;

@@ -8,11 +8,11 @@ use Rattle.child_stages.proofs.child_nine.Goals as goal
 
 pub returns-then-children_of-child : goal.returns-then-children_of-child
 unfolding take in_children
-returns-then-children_of-child c = made_past _ _ _ _ _ (kids_same c.args.shape c.children_of.ensures c.place_tree-tree.ensures) c.if-children_of-child.true
+returns-then-children_of-child c = made_past _ _ _ _ _ (kids_same c.args.shape c.children_of.ensures c.tree-tree.ensures) c.if-children_of-child.true
 
 pub next_child-passed-requires : goal.next_child-passed-requires
 next_child-passed-requires c = child_fits c.args.shape _ c.children_of.ensures c.if-children_of-child.false
 
 pub returns : goal.returns
 unfolding take in_children search_child
-returns c = claimed_made _ _ _ _ take_huge _ _ (takes _) (nine_same _ _ (takes _)) (rw c.place_tree-tree.ensures at c.take_huge-said.ensures) (rw (c.get.ensures, c.next_child-passed.ensures, c.place_tree-tree.ensures) at c.claimed_answer.ensures)
+returns c = claimed_made _ _ _ _ take_huge _ _ (takes _) (nine_same _ _ (takes _)) (rw c.tree-tree.ensures at c.take_huge-said.ensures) (rw (c.get.ensures, c.next_child-passed.ensures, c.tree-tree.ensures) at c.claimed_answer.ensures)

@@ -14,4 +14,4 @@ returns-in-None c = block_out _ _ _ _ c.block_at.ensures c.in-None.is
 
 pub returns-in-Some : goal.returns-in-Some
 unfolding give in_children
-returns-in-Some c = given_there _ _ _ _ c.block_at.ensures c.in-Some.is _ plain (rw c.put.ensures at c.given_answer.ensures) (give_count (run_size c.args.run)) (count_same _ plain _) (rw c.frames_of.ensures at c.give_count-said.ensures) refl
+returns-in-Some c = given_there _ _ _ _ c.block_at.ensures c.in-Some.is _ plain (rw c.put.ensures at c.given_answer.ensures) (give_count (run_size c.args.run)) (count_same _ plain _) (rw c.frames.ensures at c.give_count-said.ensures) refl

@@ -5,7 +5,7 @@ pub returns-then-cpus-cpu : goal.returns-then-cpus-cpu
 returns-then-cpus-cpu c = write_none _ _ _ _ _ _ c.if-cpus-cpu.true
 
 pub returns-then-hand-frames : goal.returns-then-hand-frames
-returns-then-hand-frames c = write_short _ _ _ _ _ _ _ c.frames_of-frames.ensures c.if-hand-frames.true c.if-cpus-cpu.false
+returns-then-hand-frames c = write_short _ _ _ _ _ _ _ c.frames-frames.ensures c.if-hand-frames.true c.if-cpus-cpu.false
 
 pub returns : goal.returns
-returns c = write_rule _ _ _ _ _ _ _ _ c.frames_of-frames.ensures c.found_tree.ensures c.if-hand-frames.false c.write-said.ensures c.write_answer.ensures
+returns c = write_rule _ _ _ _ _ _ _ _ c.frames-frames.ensures c.tree.ensures c.if-hand-frames.false c.write-said.ensures c.write_answer.ensures

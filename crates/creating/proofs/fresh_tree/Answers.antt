@@ -7,11 +7,11 @@ pub overflow_add-tree : goal.overflow_add-tree
 unfolding trees_of
 overflow_add-tree c = omega (arith, c.requires)
 
-pub returns-then-tree-trees_of : goal.returns-then-tree-trees_of
-returns-then-tree-trees_of c = tree_next _ _ _ _ (omega (arith, c.requires)) c.capacity_of.ensures c.store_count.ensures c.trees_of.ensures c.if-tree-trees_of.true c.creating.ensures
+pub returns-then-tree-trees : goal.returns-then-tree-trees
+returns-then-tree-trees c = tree_next _ _ _ _ (omega (arith, c.requires)) c.capacity_of.ensures c.store_count.ensures c.trees.ensures c.if-tree-trees.true c.creating.ensures
 
-pub returns-else-tree-trees_of : goal.returns-else-tree-trees_of
-returns-else-tree-trees_of c = tree_last _ _ _ _ (omega (arith, c.requires)) c.capacity_of.ensures c.store_count.ensures c.trees_of.ensures c.if-tree-trees_of.false c.creating-in-Ok.ensures
+pub returns-else-tree-trees : goal.returns-else-tree-trees
+returns-else-tree-trees c = tree_last _ _ _ _ (omega (arith, c.requires)) c.capacity_of.ensures c.store_count.ensures c.trees.ensures c.if-tree-trees.false c.creating-in-Ok.ensures
 
 pub returns-in-Err : goal.returns-in-Err
 returns-in-Err c = tree_none _ _ _ _ (omega (arith, c.requires)) c.capacity_of.ensures c.store_count.ensures c.in-Err.is

@@ -12,7 +12,7 @@ unfolding went_to
 returns-in_default c = rw c.requires.1 refl
 
 pub returns-in-Ok : goal.returns-in-Ok
-returns-in-Ok c = simp c.taken.ensures (last_done c.requires.0 _ _ c.if-fuel-steps.false _ c.block_of-block.ensures c.block_at.ensures c.in-Some.is c.set_start.ensures c.in-Ok.is c.first_of-end.ensures)
+returns-in-Ok c = simp c.taken.ensures (last_done c.requires.0 _ _ c.if-fuel-steps.false _ c.block_of-block.ensures c.block_at.ensures c.in-Some.is c.set_start.ensures c.in-Ok.is c.first-end.ensures)
 
 pub returns-in-Err : goal.returns-in-Err
 returns-in-Err c = rw c.requires.1 (last_stands c.requires.0 _ _ c.if-fuel-steps.false _ c.block_of-block.ensures c.block_at.ensures c.in-Some.is c.set_start.ensures c.in-Err.is)

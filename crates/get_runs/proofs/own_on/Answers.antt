@@ -21,19 +21,19 @@ shape_of-cpus-in-Last c = search (rules, c.claim_own.auto, c.last_on.auto)
 
 pub returns-in-Last : goal.returns-in-Last
 unfolding went_to
-returns-in-Last c = own_claimed _ _ _ _ c.requires _ c.if-fuel-eq0.false c.frames_of.ensures c.claim_own.ensures (c.in-Ok-Claimed.is ∙ ap Ok c.in-Ok-Claimed.field-0-is) (c.last_on.ensures ∙ (rw c.in-Last.is at c.child_on-left.ensures))
+returns-in-Last c = own_claimed _ _ _ _ c.requires _ c.if-fuel-eq0.false c.frames.ensures c.claim_own.ensures (c.in-Ok-Claimed.is ∙ ap Ok c.in-Ok-Claimed.field-0-is) (c.last_on.ensures ∙ (rw c.in-Last.is at c.child_on-left.ensures))
 
 pub returns-then-search_in : goal.returns-then-search_in
-returns-then-search_in c = own_claimed _ _ _ _ c.requires _ c.if-fuel-eq0.false c.frames_of.ensures c.claim_own.ensures (c.in-Ok-Claimed.is ∙ ap Ok c.in-Ok-Claimed.field-0-is) c.child_on-left.ensures
+returns-then-search_in c = own_claimed _ _ _ _ c.requires _ c.if-fuel-eq0.false c.frames.ensures c.claim_own.ensures (c.in-Ok-Claimed.is ∙ ap Ok c.in-Ok-Claimed.field-0-is) c.child_on-left.ensures
 
 pub returns-in-Ok-Absent : goal.returns-in-Ok-Absent
-returns-in-Ok-Absent c = simp c.stands-in-Ok-Absent.ensures (own_goes _ _ _ _ c.requires _ c.if-fuel-eq0.false c.frames_of.ensures c.claim_own.ensures (c.in-Ok-Absent.is ∙ ap Ok c.in-Ok-Absent.field-0-is) refl)
+returns-in-Ok-Absent c = simp c.stands-in-Ok-Absent.ensures (own_goes _ _ _ _ c.requires _ c.if-fuel-eq0.false c.frames.ensures c.claim_own.ensures (c.in-Ok-Absent.is ∙ ap Ok c.in-Ok-Absent.field-0-is) refl)
 
 pub returns-else-search_in : goal.returns-else-search_in
-returns-else-search_in c = simp c.stands-in-Ok-Claimed.ensures (own_goes _ _ _ _ c.requires _ c.if-fuel-eq0.false c.frames_of.ensures c.claim_own.ensures (c.in-Ok-Claimed.is ∙ ap Ok c.in-Ok-Claimed.field-0-is) refl)
+returns-else-search_in c = simp c.stands-in-Ok-Claimed.ensures (own_goes _ _ _ _ c.requires _ c.if-fuel-eq0.false c.frames.ensures c.claim_own.ensures (c.in-Ok-Claimed.is ∙ ap Ok c.in-Ok-Claimed.field-0-is) refl)
 
 pub returns-in-Ok-Short : goal.returns-in-Ok-Short
-returns-in-Ok-Short c = simp c.stands-in-Ok-Short.ensures (own_goes _ _ _ _ c.requires _ c.if-fuel-eq0.false c.frames_of.ensures c.claim_own.ensures (c.in-Ok-Short.is ∙ ap Ok c.in-Ok-Short.field-0-is) refl)
+returns-in-Ok-Short c = simp c.stands-in-Ok-Short.ensures (own_goes _ _ _ _ c.requires _ c.if-fuel-eq0.false c.frames.ensures c.claim_own.ensures (c.in-Ok-Short.is ∙ ap Ok c.in-Ok-Short.field-0-is) refl)
 
 pub returns-in-Err : goal.returns-in-Err
-returns-in-Err c = simp c.stands-in-Err.ensures (own_stands _ _ _ _ c.requires _ c.if-fuel-eq0.false c.frames_of.ensures c.claim_own.ensures c.in-Err.is)
+returns-in-Err c = simp c.stands-in-Err.ensures (own_stands _ _ _ _ c.requires _ c.if-fuel-eq0.false c.frames.ensures c.claim_own.ensures c.in-Err.is)

@@ -14,16 +14,16 @@ returns-then-children-huge_frames c = lacks c.huge_frames.ensures _ c.if-childre
 
 pub returns-then-trees-n : goal.returns-then-trees-n
 unfolding trees_settled_in
-returns-then-trees-n c = has c.huge_frames.ensures c.if-children-huge_frames.false (lacks (all_trees c.args.shape c.trees_of-n.ensures) _ c.if-trees-n.true)
+returns-then-trees-n c = has c.huge_frames.ensures c.if-children-huge_frames.false (lacks (all_trees c.args.shape c.trees-n.ensures) _ c.if-trees-n.true)
 
 pub returns-then-cpus-shape : goal.returns-then-cpus-shape
 unfolding trees_settled_in
-returns-then-cpus-shape c = has c.huge_frames.ensures c.if-children-huge_frames.false (has (all_trees c.args.shape c.trees_of-n.ensures) c.if-trees-n.false (lacks refl _ c.if-cpus-shape.true))
+returns-then-cpus-shape c = has c.huge_frames.ensures c.if-children-huge_frames.false (has (all_trees c.args.shape c.trees-n.ensures) c.if-trees-n.false (lacks refl _ c.if-cpus-shape.true))
 
 pub returns : goal.returns
 unfolding trees_settled_in
 returns c =
-    let n = all_trees c.args.shape c.trees_of-n.ensures in
+    let n = all_trees c.args.shape c.trees-n.ensures in
     has c.huge_frames.ensures c.if-children-huge_frames.false
     (has n c.if-trees-n.false
     (has refl c.if-cpus-shape.false

@@ -36,7 +36,7 @@ pub children-preserved : goal.children-preserved
 children-preserved c =
     let i = c.children.invariant in
     let h = c.children-test.true in
-    let q = c.frames_of-size.ensures in
+    let q = c.frames-size.ensures in
     let e = c.in_ok-claim.ensures in
     let t : c.if-child-n.child ≡ next_of (length c.args.children.now) c.children.child =
     elim c.if-child-n.branch [ then-child-n w ↦ next_wraps _ _ _ w.if-child-n.true w.child-is | else-child-n w ↦ next_follows _ _ _ w.if-child-n.false w.child-is ] in
@@ -64,10 +64,10 @@ shape_of-words-in-Some c =
 
 pub returns-in-Some : goal.returns-in-Some
 returns-in-Some c =
-    turns_found c.children.invariant c.children-test.true c.frames_of-size.ensures c.in_ok-claim.ensures (ap Ok c.in-Taken.is)
+    turns_found c.children.invariant c.children-test.true c.frames-size.ensures c.in_ok-claim.ensures (ap Ok c.in-Taken.is)
     c.loop-word.invariant c.loop-word-test.true c.take_at.ensures _ c.in-Some.is c.frame_at.ensures
 
 pub returns-in_err-claim : goal.returns-in_err-claim
 returns-in_err-claim c =
     let p = err_from_is_err_and c.from_residual.result c.from_residual.ensures.1 in
-    rw (p.1, p.2) (turns_refused c.children.invariant c.children-test.true c.frames_of-size.ensures c.in_err-claim.ensures refl)
+    rw (p.1, p.2) (turns_refused c.children.invariant c.children-test.true c.frames-size.ensures c.in_err-claim.ensures refl)

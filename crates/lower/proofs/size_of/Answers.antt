@@ -4,5 +4,5 @@ use Rattle.lower.proofs.size_of.Goals as goal
 
 pub returns : goal.returns
 returns c =
-    let e = c.frames_of.ensures in
+    let e = c.frames.ensures in
     (e, rw e (run_some _), rw e (run_within _))

@@ -2,4 +2,4 @@ use mathlib.Core.Path.{refl}
 use Rattle.put_runs.proofs.ends.Goals as goal
 
 pub returns : goal.returns
-returns c = rw c.first_of.ensures refl
+returns c = rw c.first.ensures refl

@@ -9,7 +9,7 @@ returns-then-fuel-le1 c = refl
 
 pub returns-in-Ok : goal.returns-in-Ok
 unfolding went_to
-returns-in-Ok c = run_follows c.if-fuel-le1.false (raise_step c.requires.0 c.requires.1 c.frames_of.ensures c.give_count.ensures (rw c.in-Ok.is refl)) refl
+returns-in-Ok c = run_follows c.if-fuel-le1.false (raise_step c.requires.0 c.requires.1 c.frames.ensures c.give_count.ensures (rw c.in-Ok.is refl)) refl
 
 pub returns-in-Err : goal.returns-in-Err
-returns-in-Err c = run_stays _ _ (raise_step c.requires.0 c.requires.1 c.frames_of.ensures c.give_count.ensures (rw c.in-Err.is refl)) (fault_refused c.in-Err.field-0) refl
+returns-in-Err c = run_stays _ _ (raise_step c.requires.0 c.requires.1 c.frames.ensures c.give_count.ensures (rw c.in-Err.is refl)) (fault_refused c.in-Err.field-0) refl

@@ -1,6 +1,0 @@
-use mathlib.Core.Path.{sym, ap, ◌∙◌}
-use Rattle.rules.specs.Blocks.{size_of}
-use Rattle.places.proofs.block_frames.Goals as goal
-
-pub returns-in-Run : goal.returns-in-Run
-returns-in-Run c = c.frames_of.ensures ∙ sym (ap size_of c.in-Run.is)

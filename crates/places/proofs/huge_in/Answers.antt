@@ -1,5 +1,0 @@
-use Rattle.places.proofs.Ranges.{below_check}
-use Rattle.places.proofs.huge_in.Goals as goal
-
-pub returns : goal.returns
-returns c = below_check _ c.huge_frames.ensures

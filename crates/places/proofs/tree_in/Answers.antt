@@ -1,6 +1,0 @@
-use mathlib.Core.Path.{◌∙◌}
-use Rattle.places.proofs.Ranges.{below_check, trees_same}
-use Rattle.places.proofs.tree_in.Goals as goal
-
-pub returns : goal.returns
-returns c = below_check _ (c.trees_of.ensures ∙ trees_same c.args.shape)
