@@ -210,7 +210,8 @@ pub fn give_count(children: &mut [u16], child: usize, size: u16) -> Result<(), F
             children[child] = join_child(0, count + size);
             Ok(())
         }
-        _ => Err(Fault::Damaged),
+        ChildEntry::Counts(_) => Err(Fault::Damaged),
+        ChildEntry::Flagged => Err(Fault::Damaged),
     }
 }
 

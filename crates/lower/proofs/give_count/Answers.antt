@@ -28,8 +28,8 @@ bounds-children-child c = (look_there _ _ (sym c.in_ok-count.ensures ∙ ap Ok c
 pub returns-in-Counts : goal.returns-in-Counts
 returns-in-Counts c = give_given _ _ _ _ _ (sym c.in_ok-count.ensures ∙ ap Ok c.in-Counts.is) (omega (arith, count_fits _ _ (look_there _ _ (sym c.in_ok-count.ensures ∙ ap Ok c.in-Counts.is)).1)) c.join_child.ensures
 
-pub returns-in_default : goal.returns-in_default
-returns-in_default c = give_past _ _ _ _ (sym c.in_ok-count.ensures ∙ ap Ok c.in-Counts.is) (omega (arith, count_fits _ _ (look_there _ _ (sym c.in_ok-count.ensures ∙ ap Ok c.in-Counts.is)).1))
+pub returns-in-Counts-2 : goal.returns-in-Counts-2
+returns-in-Counts-2 c = give_past _ _ _ _ (sym c.in_ok-count.ensures ∙ ap Ok c.in-Counts.is) (omega (arith, count_fits _ _ (look_there _ _ (sym c.in_ok-count.ensures ∙ ap Ok c.in-Counts.is)).1))
 
-pub returns-in_default-2 : goal.returns-in_default-2
-returns-in_default-2 c = give_flagged _ _ _ (sym c.in_ok-count.ensures ∙ ap Ok c.in_default.is)
+pub returns-in-Flagged : goal.returns-in-Flagged
+returns-in-Flagged c = give_flagged _ _ _ (sym c.in_ok-count.ensures ∙ ap Ok c.in-Flagged.is)
