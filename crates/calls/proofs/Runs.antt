@@ -26,6 +26,14 @@ next_tells a = answer_elim (NextTells a) a (λ b. None) Some None (λ b q. ap ne
     ended : 2 ≤ number a → next_of a ≡ ends
     ended l = answer_elim (λ x. x ≡ ends) a (λ b. ends) goes_on ends (λ b q. refl) (λ r q. let n : number a ≡ 1 = ap number q in absurd (omega arith)) (λ k. refl)
 
+-- an answer that is not under way ends the operation
+pub ended_at : (a : Answer) → ((x : Record) → a ≡ Answer.UnderWay x → ⊥) → next_of a ≡ ends
+ended_at a q = by_told (next_in a) (next_tells a)
+  where
+    by_told : (n : Option Record) → NextTells a n → next_of a ≡ ends
+    by_told None e = e
+    by_told (Some x) e = absurd (q x e)
+
 -- an answer that ends the operation is the run's
 pub follow_ended : (f : Zone → Record → Plan) (n k : ℕ) (a : Answer) (z : Zone) → next_of a ≡ ends → follow f n k a z ≡ ran a k z
 unfolding follow
@@ -61,23 +69,17 @@ from_first f a z e q = q ∙ ap (λ i. follow f i 0 a z) (sub-zero _ ∙ e)
 -- ---- a run whose steps are calls of a closure
 
 module _ {F : Type 0} (R : F → Record → Answer → F → Type 0) where
-  -- an answer that ends the operation is the run's
-  calls_ended : (n k : ℕ) (a : Answer) (f : F) → next_of a ≡ ends → Runs R n k a f (record { answer = a; steps = k }) f
-  calls_ended zero k a f q = (refl, refl)
-  calls_ended (suc n) k a f q = rw q (refl, refl)
+  -- an answer that is not under way is the run's
+  pub call_ends : (n k : ℕ) (a : Answer) (f : F) → ((x : Record) → a ≡ Answer.UnderWay x → ⊥) → Runs R n k a f (record { answer = a; steps = k }) f
+  call_ends zero k a f q = (refl, refl)
+  call_ends (suc n) k a f q = rw (ended_at a q) (refl, refl)
 
   -- one call, and the run after it
-  module _ (fuel k : ℕ) (r : Record) {f h : F} {a : Answer} {m : Option Record} (l : k < fuel) (c : R f r a h) (n : m ≡ next_in a) where
-    called : (e : Ended) (g : F) → Runs R (fuel - (k + 1)) (k + 1) a h e g → Runs R (fuel - k) k (Answer.UnderWay r) f e g
-    called e g x =
+  module _ (fuel k : ℕ) (r : Record) {f h : F} {a b : Answer} (l : k < fuel) (q : a ≡ Answer.UnderWay r) (c : R f r b h) where
+    pub call_goes : (e : Ended) (g : F) → Runs R (fuel - (k + 1)) (k + 1) b h e g → Runs R (fuel - k) k a f e g
+    call_goes e g x =
         let d : fuel - k ≡ suc (fuel - (k + 1)) = omega arith in
-        rw d (a, h, c, subst (λ j. Runs R (fuel - (k + 1)) j a h e g) (add-one _) x)
-
-    pub call_goes : {x : Record} → m ≡ Some x → (e : Ended) (g : F) → Runs R (fuel - (k + 1)) (k + 1) (Answer.UnderWay x) h e g → Runs R (fuel - k) k (Answer.UnderWay r) f e g
-    call_goes q e g y = called e g (subst (λ b. Runs R (fuel - (k + 1)) (k + 1) b h e g) (sym (subst (NextTells a) (sym n ∙ q) (next_tells a))) y)
-
-    pub call_ends : m ≡ None → Runs R (fuel - k) k (Answer.UnderWay r) f (record { answer = a; steps = k + 1 }) h
-    call_ends q = called _ h (calls_ended (fuel - (k + 1)) (k + 1) a h (subst (NextTells a) (sym n ∙ q) (next_tells a)))
+        rw (q, d) (b, h, c, subst (λ j. Runs R (fuel - (k + 1)) j b h e g) (add-one _) x)
 
 -- n steps after k, from the zone as it stands
 abbrev after_lem : (Zone → Record → Plan) → ℕ → ℕ → Result → Ran

@@ -98,19 +98,15 @@ pub fn follow<F: FnMut(Record) -> Answer>(step: &mut F, rec: Record, made: u64, 
     requires { F.IsAlwaysCallable step.old }
     ensures { Runs F.step (fuel - made) made (Answer.UnderWay rec) step.old result step.new }
 {
-    let mut at = rec;
+    let mut answer = Answer::UnderWay(rec);
     for steps in made..fuel {
-        let answer = step(at);
-        let Some(next) = next_of(answer) else {
-            return Ended {
-                answer,
-                steps: steps + 1,
-            };
+        let Answer::UnderWay(at) = answer else {
+            return Ended { answer, steps };
         };
-        at = next;
+        answer = step(at);
     }
     Ended {
-        answer: Answer::UnderWay(at),
+        answer,
         steps: fuel.max(made),
     }
 }
